@@ -1,0 +1,5 @@
+-- Laws that belong to no one crate above: cases on numbers, tests with what they decide, the rule of a constant table, finite sums.
+pub mod Cases
+pub mod Tests
+pub mod Table
+pub mod Sums
