@@ -42,7 +42,7 @@ isTerritory? t =
 pub clear? : (x p : ℕ) → Decides (x % p ≡ 0) (eqb (x - x % p) x)
 clear? x p = iff? (eqb? (x - x % p) x) (λ e. omega (arith, mod-le x p)) (λ e. omega arith)
 
-kept : (x p : ℕ) → x - x % p ≡ x / p * p
+pub kept : (x p : ℕ) → x - x % p ≡ x / p * p
 kept x p = omega (arith, div-add-mod' x p)
 
 pub agree? : (x y l : ℕ) → Decides (top l x ≡ top l y) (eqb (x - x % span l) (y - y % span l))
