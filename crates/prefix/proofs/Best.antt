@@ -6,10 +6,17 @@ use mathlib.Core.List.{List, [], _∷_, List·Memᴰ as Mem, List·Memᴰ·head 
 use Prim.Native.Nat.{ℕ, _≤_, _<_}
 use native.Mathlib.Nat.{le-of-lt, le-of-eq, le-trans, le-antisymm, lt-of-not-le}
 use native.Mathlib.Omega.{arith}
-use Rattle.ground.proofs.Tests.{leb?, passes, stops, by-test}
+use Rattle.ground.proofs.Tests.{Decides, leb?, and?, iff?, passes, stops, by-test}
 use Rattle.prefix.specs.Prefixes.{key, Contains}
-use Rattle.prefix.specs.Routes.{Route, Match, no-route, via, viaOf, noLonger, better, best, AllRoutes, Ascending, IsLongest, IsBest, none, found}
-use Rattle.prefix.proofs.Prefixes.{contains?, same-prefix}
+use Rattle.prefix.specs.Routes.{Route, Match, no-route, via, viaOf, noLonger, better, best, isRoute, IsRoute, AllRoutes, Ascending, IsLongest, IsBest, none, found}
+use Rattle.prefix.proofs.Prefixes.{wellFormed?, contains?, same-prefix}
+
+pub isRoute? : (r : Route) → Decides (IsRoute r) (isRoute r)
+unfolding isRoute
+isRoute? r =
+    iff? (and? (and? (wellFormed? (r .prefix)) (leb? 1 (r .hop))) (leb? (r .hop) 32767))
+    (λ h. record { formed = h .0 .0; some-hop = h .0 .1; hop-fits = h .1 })
+    (λ i. ((i .formed, i .some-hop), i .hop-fits))
 
 -- ---- one step of `best`
 

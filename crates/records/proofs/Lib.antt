@@ -1,0 +1,4 @@
+pub mod Accepted
+pub mod Figures
+pub mod Laws
+pub mod RoundTrip
