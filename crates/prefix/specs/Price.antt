@@ -43,7 +43,7 @@ blockPrice true false before after a = 1 + sum 256 (λ i. differ no-route (best 
 abbrev pub blockStart : Prefix → ℕ → ℕ
 blockStart t k = t .address + 256 * k
 
--- how many blocks the territory has
+-- how many blocks a prefix has: those that it contains, or the one that contains it
 abbrev pub blocks : Prefix → ℕ
 blocks t = 2 ^ (24 - t .length)
 

@@ -1,0 +1,64 @@
+-- `look::says` meets its contract: a law of `Answers` for each way out. Assumes nothing.
+use mathlib.Core.Path.{sym, ap, _∙_}
+use native.Mathlib.Omega.{arith}
+use denote.Ref.{now}
+use Rattle.cells.specs.Lookup.{packed}
+use Rattle.cells.proofs.Answers.{decides, hands-on, not-lent}
+use borrow.Author.Needs.{needs}
+use Rattle.cells.proofs.look.says.Statement.{statement}
+use Rattle.cells.proofs.look.says.Tie as tie
+
+verdict-requires : tie.Need-verdict-requires
+verdict-requires c κs = search needs
+
+returns : tie.Need-returns
+returns c =
+    let s = c .before .before .before .args in c .verdict .ensures ∙ sym (ap packed (decides (now (s .long)) (s .low) (s .cell) (omega arith)))
+
+cast-segment : tie.Need-cast-segment
+cast-segment c = search needs
+
+mul-result : tie.Need-mul-result
+mul-result c = search needs
+
+returns-2 : tie.Need-returns-2
+returns-2 c =
+    let s = c .before .before .before .args in
+    sym (ap packed (not-lent (now (s .long)) (s .low) (s .cell) (omega arith) (omega arith)))
+
+mul-verdict : tie.Need-mul-verdict
+mul-verdict c = search needs
+
+add-verdict : tie.Need-add-verdict
+add-verdict c = search needs
+
+mul-verdict-2 : tie.Need-mul-verdict-2
+mul-verdict-2 c = search needs
+
+shared-slice-read-verdict : tie.Need-shared-slice-read-verdict
+shared-slice-read-verdict c = search needs
+
+verdict-requires-2 : tie.Need-verdict-requires-2
+verdict-requires-2 c κs = search needs
+
+returns-3 : tie.Need-returns-3
+returns-3 c =
+    let s = c .before .before .before .before .before .args in
+    c .verdict2 .ensures
+    ∙ sym (ap packed (hands-on (now (s .long)) (s .low) (s .cell) (omega arith) (omega arith)))
+
+pub says-spec : {M : Type 1} → statement M
+says-spec =
+    tie.close
+    (tie.spec
+    verdict-requires
+    returns
+    cast-segment
+    mul-result
+    returns-2
+    mul-verdict
+    add-verdict
+    mul-verdict-2
+    shared-slice-read-verdict
+    verdict-requires-2
+    returns-3)

@@ -1,0 +1,52 @@
+// The cell kind: its fixed numbers, named once here, and what a word of the tables holds.
+ghost use mathlib.Core.Path.{_≡_};
+ghost use Prim.Native.Nat.{_≤_};
+ghost use Rattle.cells.specs.Cells.{pack, hopOf, lengthOf, isDirect};
+
+// The kind of a table's words: its numbers and functions, on words that are plain u32.
+pub struct Cell {}
+
+impl Cell {
+    // No route.
+    pub const EMPTY: u32 = 0;
+    // A direct cell is hop * RADIX + length.
+    pub const RADIX: u32 = 64;
+    // A pointer is POINTER + a segment's number: any word from here up, in the first table only.
+    pub const POINTER: u32 = 0x8000_0000;
+    // A hop is at most this, and at least 1.
+    pub const LAST_HOP: u32 = 32767;
+
+    // The direct cell of a hop and a length.
+    pub fn pack(hop: u32, length: u32) -> u32
+        requires { ⌜ (hop ≤ 32767) × (length ≤ 32) ⌝ }
+        ensures { λ r. ⌜ r ≡ pack hop length ⌝ }
+    {
+        hop * Cell::RADIX + length
+    }
+
+    pub fn hop(cell: u32) -> u32
+        ensures { λ r. ⌜ r ≡ hopOf cell ⌝ }
+    {
+        cell / Cell::RADIX
+    }
+
+    pub fn length(cell: u32) -> u32
+        ensures { λ r. ⌜ r ≡ lengthOf cell ⌝ }
+    {
+        cell % Cell::RADIX
+    }
+
+    // Whether the word is a direct cell of a table whose prefixes are at most `longest` long: 24 in the first table, 32 in the long one.
+    pub fn is_direct(cell: u32, longest: u32) -> bool
+        ensures { λ r. ⌜ r ≡ isDirect longest cell ⌝ }
+    {
+        let hop = Cell::hop(cell);
+        if hop < 1 {
+            return false;
+        }
+        if Cell::LAST_HOP < hop {
+            return false;
+        }
+        Cell::length(cell) <= longest
+    }
+}

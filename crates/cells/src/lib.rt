@@ -1,0 +1,5 @@
+// Reading the tables: what a cell says, look up and show on the two lent tables, and look up on bytes, for C.
+pub mod bytes;
+pub mod cell;
+pub mod look;
+pub mod show;
