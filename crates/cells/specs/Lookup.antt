@@ -31,8 +31,11 @@ abbrev pub blockOf : Prefix → ℕ → ℕ
 blockOf t a = (a - t .address) / 256
 
 -- what the deciding cell says: 0 is no route, a direct cell its hop, and anything else is damage
+abbrev pub directOrDamage : ℕ → ℕ → Answer
+directOrDamage longest cell = cond (isDirect longest cell) (found (hopOf cell)) (refused 4)
+
 unfoldable pub verdictOf : ℕ → ℕ → Answer
-verdictOf longest cell = cond (eqb cell empty) (refused 8) (cond (isDirect longest cell) (found (hopOf cell)) (refused 4))
+verdictOf longest cell = cond (eqb cell empty) (refused 8) (directOrDamage longest cell)
 
 -- what a cell of the first table says: a pointer hands on to the cell at `low` of its segment, if that is lent; any other decides
 unfoldable pub saysOf : List ℕ → ℕ → ℕ → Answer

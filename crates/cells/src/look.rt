@@ -1,7 +1,7 @@
 // Look up: the answer to an address, from the first and the long table.
 ghost use mathlib.Core.Path.{_≡_};
 ghost use Prim.Native.Nat.{_-_, _^_, _<_, _≤_};
-ghost use Rattle.cells.specs.Lookup.{standingOf, packed, verdictOf, saysOf, lookUp};
+ghost use Rattle.cells.specs.Lookup.{standingOf, packed, directOrDamage, verdictOf, saysOf, lookUp};
 use crate::cell::Cell;
 use prefix::Prefix;
 
@@ -48,17 +48,27 @@ pub fn standing(first: usize, long: usize, territory: Prefix, address: u32) -> u
     0
 }
 
-// What a deciding cell says, as the one number code * 65,536 + hop: in a register, and with no jump on what was loaded.
-pub fn verdict(cell: u32, longest: u32) -> u32
-    ensures { λ r. ⌜ r ≡ packed (verdictOf longest cell) ⌝ }
+// The hop of a direct cell, or refusal 4, as the one number code * 65,536 + hop.
+fn direct_or_damage(cell: u32, longest: u32) -> u32
+    ensures { λ r. ⌜ r ≡ packed (directOrDamage longest cell) ⌝ }
 {
-    if cell == Cell::EMPTY {
-        return 8 * 65536;
-    }
     if Cell::is_direct(cell, longest) {
         return Cell::hop(cell);
     }
     4 * 65536
+}
+
+// What a deciding cell says, as one number. Whether it is 0 is asked last, so that the answer is selected and not jumped to: no
+// processor foresees whether the next address has a route.
+pub fn verdict(cell: u32, longest: u32) -> u32
+    ensures { λ r. ⌜ r ≡ packed (verdictOf longest cell) ⌝ }
+{
+    let number = direct_or_damage(cell, longest);
+    if cell == Cell::EMPTY {
+        8 * 65536
+    } else {
+        number
+    }
 }
 
 // What a cell of the first table says for an address whose last eight bits are low, as one number.
