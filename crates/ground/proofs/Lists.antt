@@ -10,6 +10,8 @@ use native.Mathlib.Omega.{arith}
 use lib.ListN.{length, getD, set, length-set}
 use lib.Seq.{ext-getD, getD-set-same, getD-set-other}
 use Rattle.ground.specs.Lists.{mapAt, changeWhere, differs, differing, everyBelow}
+use Rattle.ground.specs.Sums.{sum}
+use Rattle.ground.proofs.Sums.{sum-front}
 use Rattle.ground.proofs.Tests.{Decides, holds, ltb?, eqb?, and?, iff?, cond-on, cond-off, by-test}
 
 -- ---- `mapAt`
@@ -141,6 +143,14 @@ differing-add (x ∷ xs) [] zs l m h = absurd (omega arith)
 differing-add (x ∷ xs) (y ∷ ys) [] l m h = absurd (omega arith)
 differing-add (x ∷ xs) (y ∷ ys) (z ∷ zs) l m h =
     omega (arith, differing-add xs ys zs (omega arith) (omega arith) (λ i k. h (suc i) (suc-le-suc k)), differs-add x y z (h 0 (suc-le-suc zero-le)))
+
+-- the differing elements, as a sum over the indices
+pub differing-sum : (xs ys : List ℕ) → length xs ≡ length ys → differing xs ys ≡ sum (length xs) (λ i. differs (getD xs i 0) (getD ys i 0))
+unfolding differing sum
+differing-sum [] ys e = refl
+differing-sum (x ∷ xs) [] e = absurd (omega arith)
+differing-sum (x ∷ xs) (y ∷ ys) e =
+    ap (λ (n : ℕ). differs x y + n) (differing-sum xs ys (omega arith)) ∙ sym (sum-front (length xs) (λ i. differs (getD (x ∷ xs) i 0) (getD (y ∷ ys) i 0)))
 
 -- ---- one change after another
 

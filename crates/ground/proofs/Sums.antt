@@ -1,8 +1,8 @@
 -- The laws of finite sums: equal terms, the sum of sums, the swap of two sums, one term that counts, two parts. Assumes nothing.
 use mathlib.Core.Path.{_≡_, refl, sym, ap, ap₂, _∙_}
 use mathlib.Core.Logic.{_≢_, _⊎_, inl, inr}
-use Prim.Native.Nat.{ℕ, zero, suc, _+_, _≤_, _<_}
-use native.Mathlib.Nat.{le-refl, le-step, not-suc-le-zero, eq-or-lt-of-le, le-of-suc-le-suc, add-zero, zero-add, add-suc, add-assoc, add-le-add}
+use Prim.Native.Nat.{ℕ, zero, suc, _+_, _-_, _*_, _≤_, _<_}
+use native.Mathlib.Nat.{le-refl, le-step, not-suc-le-zero, eq-or-lt-of-le, le-of-suc-le-suc, add-zero, zero-add, add-suc, add-assoc, add-le-add, zero-mul, suc-mul}
 use native.Mathlib.Omega.{arith}
 use Rattle.ground.specs.Sums.{sum}
 
@@ -65,3 +65,26 @@ sum-change (suc n) f g j h e = go (eq-or-lt-of-le (le-of-suc-le-suc h)) (λ l. s
         let fj = ap f p in let gj = ap g p in
         omega arith
     go (inr l) ih = let t = ih l in let last = e n (le-refl (suc n)) (λ (q : n ≡ j). omega arith) in omega arith
+
+-- the first term apart
+pub sum-front : (n : ℕ) (f : ℕ → ℕ) → sum (suc n) f ≡ f 0 + sum n (λ k. f (suc k))
+unfolding sum
+sum-front zero f = omega arith
+sum-front (suc n) f = let ih = sum-front n f in omega arith
+
+-- a sum in groups of m
+pub sum-groups : (n m : ℕ) (f : ℕ → ℕ) → sum (n * m) f ≡ sum n (λ s. sum m (λ i. f (s * m + i)))
+unfolding sum
+sum-groups zero m f = ap (λ (k : ℕ). sum k f) (zero-mul m)
+sum-groups (suc n) m f =
+    ap (λ (k : ℕ). sum k f) (suc-mul n m) ∙ sum-split (n * m) m f ∙ ap (λ (x : ℕ). x + sum m (λ i. f (n * m + i))) (sum-groups n m f)
+
+-- only the terms from a on, m of them, count
+pub sum-window : (n a m : ℕ) (f : ℕ → ℕ) → a + m ≤ n → ((k : ℕ) → k < n → (k < a) ⊎ (a + m ≤ k) → f k ≡ 0) → sum n f ≡ sum m (λ i. f (a + i))
+sum-window n a m f h z =
+    let r : a + m + (n - (a + m)) ≡ n = omega arith in
+    let whole = ap (λ (k : ℕ). sum k f) (sym r) ∙ sum-split (a + m) (n - (a + m)) f in
+    let front = sum-split a m f in
+    let before = sum-none a f (λ k l. z k (omega arith) (inl l)) in
+    let after = sum-none (n - (a + m)) (λ k. f (a + m + k)) (λ k l. z (a + m + k) (omega arith) (inr (omega arith))) in
+    omega arith

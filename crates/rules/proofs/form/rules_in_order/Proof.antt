@@ -1,0 +1,73 @@
+-- `form::rules_in_order` meets its contract. The invariant is `Counted`: the first i words are rules in order, and `low` is just above
+-- their keys. Assumes nothing.
+use mathlib.Core.Path.{sym, _∙_}
+use Prim.Native.Nat.{_-_}
+use native.Mathlib.Omega.{arith}
+use lib.ListN.{length}
+use borrow.Author.Needs.{needs}
+use borrow.Author.Tests.{not-true, not-false}
+use Rattle.ground.proofs.Tests.{says, denies}
+use Rattle.rules.proofs.Counts.{Counted, counted-none, next?, counted-more, counted-stop, counted-all}
+use Rattle.rules.proofs.form.rules_in_order.Statement.{statement}
+use Rattle.rules.proofs.form.rules_in_order.Tie as tie
+
+abbrev Inv-loop : tie.InvT-loop
+Inv-loop rules territory i₀ low₀ i low = Counted territory rules i low
+
+abbrev μ-loop : tie.MeasureT-loop
+μ-loop rules territory i₀ low₀ i low = length rules - i
+
+loop-holds : tie.Need-loop-holds Inv-loop μ-loop
+loop-holds c = counted-none _ _
+
+mul-word : tie.Need-mul-word Inv-loop μ-loop
+mul-word c = search needs
+
+shared-slice-read-word : tie.Need-shared-slice-read-word Inv-loop μ-loop
+shared-slice-read-word c = search needs
+
+is-next-requires : tie.Need-is-next-requires Inv-loop μ-loop
+is-next-requires c κs = search needs
+
+returns : tie.Need-returns Inv-loop μ-loop
+returns c =
+    let inv = c .before .before .before .before .loop .inv in
+    counted-stop inv (denies (next? inv) (sym (c .before .is-next .ensures) ∙ not-true _ (c .if1 .taken)))
+
+key-requires : tie.Need-key-requires Inv-loop μ-loop
+key-requires c κs = search needs
+
+add-low : tie.Need-add-low Inv-loop μ-loop
+add-low c = omega (arith, c .before .before .before .shared-slice-known2 .given (c .before .before .before .before .before .loop .i))
+
+add-i : tie.Need-add-i Inv-loop μ-loop
+add-i c = search needs
+
+loop-less : tie.Need-loop-less Inv-loop μ-loop
+loop-less c = search needs
+
+loop-again : tie.Need-loop-again Inv-loop μ-loop
+loop-again c =
+    let inv = c .before .before .before .before .before .loop .inv in
+    counted-more inv (omega arith) (says (next? inv) (sym (c .before .before .is-next .ensures) ∙ not-false _ (c .before .if1 .left))) (omega arith)
+
+returns-2 : tie.Need-returns-2 Inv-loop μ-loop
+returns-2 c = counted-all (c .before .loop .inv) (c .loop-test .left)
+
+pub rules-in-order-spec : {M : Type 1} → statement M
+rules-in-order-spec =
+    tie.close
+    (tie.spec
+    Inv-loop
+    μ-loop
+    loop-holds
+    mul-word
+    shared-slice-read-word
+    is-next-requires
+    returns
+    key-requires
+    add-low
+    add-i
+    loop-less
+    loop-again
+    returns-2)

@@ -1,0 +1,72 @@
+-- `list::insert_at` meets its contract. The invariant is `Raised`: the words from i on have moved up. The measure is i. Assumes nothing.
+use native.Mathlib.Omega.{arith}
+use lib.ListN.{length-set}
+use borrow.Author.Needs.{needs}
+use Rattle.rules.proofs.Shifts.{Raised, raised-none, raised-more, raised-put}
+use Rattle.rules.proofs.list.insert_at.Statement.{statement}
+use Rattle.rules.proofs.list.insert_at.Tie as tie
+
+abbrev Inv-loop : tie.InvT-loop
+Inv-loop rules₀ live at word i₀ rules i = Raised rules₀ live at rules i
+
+abbrev μ-loop : tie.MeasureT-loop
+μ-loop rules₀ live at word i₀ rules i = i
+
+loop-holds : tie.Need-loop-holds Inv-loop μ-loop
+loop-holds c = raised-none _ _ _ (c .pre .0)
+
+sub-moved : tie.Need-sub-moved Inv-loop μ-loop
+sub-moved c = search needs
+
+mul-moved : tie.Need-mul-moved Inv-loop μ-loop
+mul-moved c = search needs
+
+slice-read-moved : tie.Need-slice-read-moved Inv-loop μ-loop
+slice-read-moved c = search needs
+
+mul-rules : tie.Need-mul-rules Inv-loop μ-loop
+mul-rules c = search needs
+
+slice-write-rules : tie.Need-slice-write-rules Inv-loop μ-loop
+slice-write-rules c = search needs
+
+sub-i : tie.Need-sub-i Inv-loop μ-loop
+sub-i c = search needs
+
+loop-less : tie.Need-loop-less Inv-loop μ-loop
+loop-less c = search needs
+
+loop-again : tie.Need-loop-again Inv-loop μ-loop
+loop-again c = raised-more (c .before .before .loop .inv) _ (omega arith) (omega arith) (c .before .before .before .pre .1)
+
+mul-rules-2 : tie.Need-mul-rules-2 Inv-loop μ-loop
+mul-rules-2 c = search needs
+
+slice-write-rules-2 : tie.Need-slice-write-rules-2 Inv-loop μ-loop
+slice-write-rules-2 c = search needs
+
+same-length : tie.Need-same-length Inv-loop μ-loop
+same-length c = simp length-set (c .before .loop .inv .long)
+
+returns : tie.Need-returns Inv-loop μ-loop
+returns c = raised-put (c .before .loop .inv) _ (omega arith) (c .before .before .pre .1)
+
+pub insert-at-spec : {M : Type 1} → statement M
+insert-at-spec =
+    tie.close
+    (tie.spec
+    Inv-loop
+    μ-loop
+    loop-holds
+    sub-moved
+    mul-moved
+    slice-read-moved
+    mul-rules
+    slice-write-rules
+    sub-i
+    loop-less
+    loop-again
+    mul-rules-2
+    slice-write-rules-2
+    same-length
+    returns)

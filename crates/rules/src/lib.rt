@@ -1,0 +1,4 @@
+// The lent rule words: read and made, their form and order tested, a prefix found, put in and taken out.
+pub mod form;
+pub mod list;
+pub mod word;

@@ -1,0 +1,131 @@
+-- What a count of the words up to a prefix around an address says of the list of routes: which route is the last up to the prefix, where
+-- the next one starts, and how a count leads to the next, shorter one. Assumes nothing.
+use mathlib.Core.Path.{_≡_, refl, ap, subst}
+use mathlib.Core.Logic.{_⊎_, inl, inr, ⊎-elim}
+use mathlib.Core.Bool.{true, false}
+use mathlib.Core.List.{List, List·Memᴰ as Mem}
+use Prim.Native.Nat.{ℕ, _-_, _^_, _≤_, _<_}
+use native.Mathlib.Nat.{le-refl, le-of-lt, le-of-eq}
+use native.Mathlib.Omega.{arith}
+use lib.ListN.{getD}
+use Rattle.ground.proofs.Cases.{by-lt}
+use Rattle.ground.proofs.Tests.{Decides, eqb?, or?, says, denies}
+use Rattle.prefix.specs.declared.Prefix.{Prefix}
+use Rattle.prefix.specs.Prefixes.{key, Contains}
+use Rattle.prefix.specs.Routes.{Route}
+use Rattle.prefix.proofs.Prefixes.{contains?}
+use Rattle.rules.specs.Words.{prefixOf, routeOf, keyOf}
+use Rattle.rules.specs.Rules.{routes, Listed}
+use Rattle.rules.proofs.Words.{word-key}
+use Rattle.rules.proofs.Indices.{routes-index, index-routes, routes-rise, listed-route}
+use Rattle.runs.specs.Steps.{around, lastOf, CountUpTo, settled, SharedIs, ClimbIs, NextIs}
+use Rattle.runs.proofs.Matches.{UpTo, Last, nothing, found, climbs, some-length}
+
+-- the order of words is that of (address, length)
+key-le : (p q : Prefix) → p .length ≤ 32 → q .length ≤ 32 → keyOf p ≤ keyOf q → key p ≤ key q
+key-le p q h k l = omega arith
+
+-- a fact of each route, by the index of its word
+each : {ws : List ℕ} {n : ℕ} (P : Route → Type 0) → Listed ws n → ((k : ℕ) → k < n → P (routeOf (getD ws k 0))) → (r : Route) → Mem r (routes ws) → P r
+each {ws} {n} P s f r m = let i = routes-index ws m in subst P (i .2) (f (i .0) (omega (arith, i .1, s .count)))
+
+-- a later word has no lower key
+keys-rise : {ws : List ℕ} {n : ℕ} → Listed ws n → (j k : ℕ) → j ≤ k → k < n → key (prefixOf (getD ws j 0)) ≤ key (prefixOf (getD ws k 0))
+keys-rise {ws} s j k le h =
+    let count = s .count in
+    by-lt j k (λ lt. le-of-lt (routes-rise ws (s .order) j k lt (omega arith))) (λ ge.
+    let e : j ≡ k = omega arith in le-of-eq (ap (λ (i : ℕ). key (prefixOf (getD ws i 0))) e))
+
+-- ---- the last route up to a prefix
+
+module _ {ws : List ℕ} {n i : ℕ} (a l : ℕ) (s : Listed ws n) (short : l ≤ 32) (q : CountUpTo ws n l a i) where
+  none-up-to : i ≡ 0 → (r : Route) → Mem r (routes ws) → key (around l a) < key (r .prefix)
+  none-up-to z =
+      each (λ r. key (around l a) < key (r .prefix)) s (λ k h.
+      let f = listed-route s k h .formed .short in omega (arith, q .above k (omega arith) h, word-key (getD ws k 0)))
+
+  last-up-to : 0 < i → Last (routes ws) (key (around l a)) (routeOf (lastOf ws i))
+  last-up-to some =
+      let within = q .within in
+      let count = s .count in
+      record {
+        live = index-routes ws (i - 1) (omega arith) refl;
+        low = key-le (prefixOf (lastOf ws i)) (around l a) (listed-route s (i - 1) (omega arith) .formed .short) short
+            (omega (arith, q .below (i - 1) (omega arith), word-key (lastOf ws i)));
+        last = each (λ r. key (r .prefix) ≤ key (around l a) → key (r .prefix) ≤ key (prefixOf (lastOf ws i))) s (λ k h up.
+            by-lt k i (λ lt. keys-rise s k (i - 1) (omega arith) (omega arith))
+            (λ ge. let f = listed-route s k h .formed .short in absurd (omega (arith, q .above k (omega arith) h, word-key (getD ws k 0)))));
+      }
+
+-- ---- the next route
+
+module _ {ws : List ℕ} {n i : ℕ} (a : ℕ) (s : Listed ws n) (q : CountUpTo ws n 32 a i) where
+  -- each word that is counted starts at a or before
+  counted : (k : ℕ) → k < i → prefixOf (getD ws k 0) .address ≤ a
+  counted k h = omega (arith, q .below k h, word-key (getD ws k 0))
+
+  pub next-none : i ≡ n → a < 2 ^ 32 → NextIs (routes ws) a (2 ^ 32)
+  next-none e fits =
+      record {
+        past = fits;
+        within = le-refl (2 ^ 32);
+        next = each (λ r. r .prefix .address < 2 ^ 32 → r .prefix .address ≤ a) s (λ k h up. counted k (omega arith));
+      }
+
+  pub next-some : {r : ℕ} → i < n → prefixOf (getD ws i 0) .address ≤ 2 ^ 32 → r ≡ prefixOf (getD ws i 0) .address → NextIs (routes ws) a r
+  next-some {r} some fits e =
+      record {
+        past = let f = listed-route s i some .formed .short in omega (arith, q .above i (le-refl i) some, word-key (getD ws i 0));
+        within = omega arith;
+        next = each (λ t. t .prefix .address < r → t .prefix .address ≤ a) s (λ k h low.
+            by-lt k i (counted k) (λ ge. absurd (later k ge h low)));
+      }
+    where
+      later : (k : ℕ) → i ≤ k → k < n → prefixOf (getD ws k 0) .address < r → ⊥
+      later k ge h low =
+          let f = listed-route s i some .formed .short in
+          let g = listed-route s k h .formed .short in
+          omega (arith, keys-rise s i k ge h)
+
+-- ---- the climb
+
+pub settled? : (ws : List ℕ) (a i : ℕ) → Decides ((i ≡ 0) ⊎ Contains (prefixOf (lastOf ws i)) a) (settled ws a i)
+unfolding settled
+settled? ws a i = or? (eqb? i 0) (contains? (prefixOf (lastOf ws i)) a)
+
+-- on the way: i words are up to the prefix of length l around a, and no route that contains a is longer
+pub record Climbing (ws : List ℕ) (n a l i : ℕ) : Type 0 where
+  pub short : l ≤ 32
+  pub upTo : UpTo (routes ws) a l
+  pub count : CountUpTo ws n l a i
+
+pub climb-start : {ws : List ℕ} {n a i : ℕ} → Listed ws n → CountUpTo ws n 32 a i → Climbing ws n a 32 i
+climb-start s q = record { short = le-refl 32; upTo = λ r m c. s .all r m .formed .short; count = q }
+
+module _ {ws : List ℕ} {n a l i : ℕ} (s : Listed ws n) (on : Climbing ws n a l i) where
+  pub climb-done : settled ws a i ≡ true → ClimbIs ws n a i
+  climb-done t =
+      record {
+        within = on .count .within;
+        none = λ z. nothing (s .all) (on .short) (on .upTo) (none-up-to a l s (on .short) (on .count) z);
+        found = λ h. found (s .all) (on .short) (on .upTo) (last-up-to a l s (on .short) (on .count) h)
+            (⊎-elim (λ z. absurd (omega arith)) (λ c. c) (says (settled? ws a i) t));
+      }
+
+  module _ (t : settled ws a i ≡ false) where
+    pub climb-some : 0 < i
+    climb-some = by-lt 0 i (λ h. h) (λ h. absurd (denies (settled? ws a i) t (inl (omega arith))))
+
+    apart : ¬ Contains (prefixOf (lastOf ws i)) a
+    apart c = denies (settled? ws a i) t (inr c)
+
+    pub climb-length : a < 2 ^ 32 → 0 < l
+    climb-length fits = some-length (s .all) (on .short) (on .upTo) (last-up-to a l s (on .short) (on .count) climb-some) fits apart
+
+    pub climb-more : {m j : ℕ} → SharedIs a (prefixOf (lastOf ws i) .address) l m → CountUpTo ws n m a j → Climbing ws n a m j
+    climb-more d q =
+        record {
+          short = omega (arith, d .below, on .short);
+          upTo = climbs (s .all) (on .short) (on .upTo) (last-up-to a l s (on .short) (on .count) climb-some) apart (d .largest);
+          count = q;
+        }

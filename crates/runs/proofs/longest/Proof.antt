@@ -1,0 +1,57 @@
+-- `runs::longest` meets its contract: the next start bounds the run, and the climb finds the longest match, if there is one. Assumes nothing.
+use Prim.Native.Nat.{_-_}
+use native.Mathlib.Omega.{arith}
+use borrow.Author.Needs.{needs}
+use Rattle.rules.proofs.Indices.{listed-within, listed-route}
+use Rattle.runs.proofs.Same.{run-none, run-found}
+use Rattle.runs.proofs.longest.Statement.{statement}
+use Rattle.runs.proofs.longest.Tie as tie
+
+up-to-requires : tie.Need-up-to-requires
+up-to-requires c κs = search needs
+
+next-requires : tie.Need-next-requires
+next-requires c κs = search needs
+
+climb-requires : tie.Need-climb-requires
+climb-requires c κs = search needs
+
+returns : tie.Need-returns
+returns c =
+    let s = c .before .before .before .before .before in
+    run-none (s .pre .all) (c .before .before .next .ensures) (c .before .climb .ensures .none (c .if1 .taken))
+
+sub-run-of : tie.Need-sub-run-of
+sub-run-of c = search needs
+
+mul-run-of : tie.Need-mul-run-of
+mul-run-of c = omega (arith, listed-within (c .before .before .before .before .before .pre), c .before .climb .ensures .within)
+
+shared-slice-read-run-of : tie.Need-shared-slice-read-run-of
+shared-slice-read-run-of c = omega (arith, listed-within (c .before .before .before .before .before .before .pre), c .before .before .climb .ensures .within)
+
+run-of-requires : tie.Need-run-of-requires
+run-of-requires c κs =
+    let i = c .before .before .climb in
+    listed-route (c .before .before .before .before .before .before .pre) (i .result - 1) (omega (arith, i .ensures .within))
+
+returns-2 : tie.Need-returns-2
+returns-2 c =
+    let s = c .before .before .before .before .before .before .before in
+    let e = c .run-of .ensures in
+    run-found (s .pre .all) (c .before .before .before .before .next .ensures) (s .pre .order)
+    (c .before .before .before .climb .ensures .found (omega arith)) (e .is) (e .ends)
+
+pub longest-spec : {M : Type 1} → statement M
+longest-spec =
+    tie.close
+    (tie.spec
+    up-to-requires
+    next-requires
+    climb-requires
+    returns
+    sub-run-of
+    mul-run-of
+    shared-slice-read-run-of
+    run-of-requires
+    returns-2)

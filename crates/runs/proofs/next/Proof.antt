@@ -1,0 +1,35 @@
+-- `runs::next` meets its contract: the words up to the address start at it or before, and the first after them is the next to start.
+-- Assumes nothing.
+use native.Mathlib.Omega.{arith}
+use borrow.Author.Needs.{needs}
+use Rattle.rules.proofs.Indices.{listed-within}
+use Rattle.runs.proofs.Places.{next-none, next-some}
+use Rattle.runs.proofs.next.Statement.{statement}
+use Rattle.runs.proofs.next.Tie as tie
+
+returns : tie.Need-returns
+returns c =
+    let s = c .before .before in
+    next-none (s .args .address) (s .pre .0) (s .pre .1) (c .if1 .taken) (s .fits .address .fits)
+
+mul-address : tie.Need-mul-address
+mul-address c = omega (arith, listed-within (c .before .before .pre .0), c .before .before .pre .1 .within)
+
+shared-slice-read-address : tie.Need-shared-slice-read-address
+shared-slice-read-address c = omega (arith, listed-within (c .before .before .before .pre .0), c .before .before .before .pre .1 .within)
+
+address-requires : tie.Need-address-requires
+address-requires c κs = search needs
+
+cast-result : tie.Need-cast-result
+cast-result c = search needs
+
+returns-2 : tie.Need-returns-2
+returns-2 c =
+    let s = c .before .before .before .before in
+    next-some (s .args .address) (s .pre .0) (s .pre .1) (omega arith) (omega (arith, c .address .ok, c .address .ensures)) (c .address .ensures)
+
+pub next-spec : {M : Type 1} → statement M
+next-spec =
+    tie.close
+    (tie.spec returns mul-address shared-slice-read-address address-requires cast-result returns-2)

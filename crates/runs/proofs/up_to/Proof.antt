@@ -1,0 +1,32 @@
+-- `runs::up_to` meets its contract: the words whose key is below one more than a prefix's are those up to the prefix. Assumes nothing.
+use mathlib.Core.Path.{_≡_, subst}
+use mathlib.Core.List.{List}
+use Prim.Native.Nat.{ℕ}
+use native.Mathlib.Omega.{arith}
+use borrow.Author.Needs.{needs}
+use Rattle.rules.specs.Rules.{PositionIs}
+use Rattle.runs.proofs.up_to.Statement.{statement}
+use Rattle.runs.proofs.up_to.Tie as tie
+
+-- the same position by an equal key
+at-key : {ws : List ℕ} {n k m at : ℕ} → PositionIs ws n k at → k ≡ m → PositionIs ws n m at
+at-key {ws} {n} {at = at} q e = subst (λ (k : ℕ). PositionIs ws n k at) e q
+
+cleared-requires : tie.Need-cleared-requires
+cleared-requires c κs = search needs
+
+key-of-requires : tie.Need-key-of-requires
+key-of-requires c κs = search needs
+
+add-position : tie.Need-add-position
+add-position c = search needs
+
+position-requires : tie.Need-position-requires
+position-requires c κs = search needs
+
+returns : tie.Need-returns
+returns c = at-key (c .position .ensures) (omega (arith, c .before .key-of .ensures, c .before .before .cleared .ensures))
+
+pub up-to-spec : {M : Type 1} → statement M
+up-to-spec =
+    tie.close (tie.spec cleared-requires key-of-requires add-position position-requires returns)

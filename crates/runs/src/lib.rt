@@ -1,0 +1,144 @@
+// The longest match of an address in the rule words, with the run of addresses that share it: by a search for the address itself, and a
+// step up for each rule on the way that ends before the address, so that no pass over the words is needed.
+ghost use mathlib.Core.Path.{_≡_};
+ghost use Prim.Native.Nat.{_+_, _<_, _≤_};
+ghost use lib.Dec.{eqb};
+ghost use Rattle.prefix.specs.Prefixes.{top, span};
+ghost use Rattle.prefix.specs.Routes.{IsRoute};
+ghost use Rattle.rules.specs.Words.{routeOf};
+ghost use Rattle.rules.specs.Rules.{routes, Listed};
+ghost use Rattle.runs.specs.Run.{RunIs};
+ghost use Rattle.runs.specs.Steps.{CountUpTo, settled, SharedIs, ClimbIs, NextIs, LowerIs, MatchRunIs};
+use cells::cell::Cell;
+use prefix::Prefix;
+use rules::word::Rule;
+
+// How many addresses there are.
+const ADDRESSES: u64 = 0x1_0000_0000;
+
+// The cell of the longest match of an address, and an end past the address up to which every address has the same.
+pub struct Run {
+    pub cell: u32,
+    pub end: u64,
+}
+
+// How many of the live words are up to the prefix of this length around the address.
+fn up_to(rules: &[u64], live: usize, address: u32, length: u32) -> usize
+    requires { ⌜ Listed (now rules) live ⌝ }
+    requires { ⌜ length ≤ 32 ⌝ }
+    ensures { λ r. ⌜ CountUpTo (now (rules .entry)) live length address r ⌝ }
+{
+    let around = Prefix {
+        address: prefix::cleared(address, length),
+        length,
+    };
+    rules::list::position(rules, live, Rule::key_of(around) + 1)
+}
+
+// Whether the two addresses agree on their first `length` bits.
+fn agree(address: u32, other: u32, length: u32) -> bool
+    requires { ⌜ length ≤ 32 ⌝ }
+    ensures { λ r. ⌜ r ≡ eqb (top length other) (top length address) ⌝ }
+{
+    prefix::cleared(other, length) == prefix::cleared(address, length)
+}
+
+// How many leading bits the two addresses share, of fewer than `limit`.
+fn shared(address: u32, other: u32, limit: u32) -> u32
+    requires { ⌜ (0 < limit) × (limit ≤ 32) ⌝ }
+    ensures { λ r. ⌜ SharedIs address other limit r ⌝ }
+{
+    let mut bits = limit - 1;
+    while !agree(address, other, bits) {
+        bits -= 1;
+    }
+    bits
+}
+
+// Whether no word is left, or the last of the first `i` contains the address.
+fn is_settled(rules: &[u64], live: usize, address: u32, i: usize) -> bool
+    requires { ⌜ Listed (now rules) live ⌝ }
+    requires { ⌜ i ≤ live ⌝ }
+    ensures { λ r. ⌜ r ≡ settled (now (rules .entry)) address i ⌝ }
+{
+    if i == 0 {
+        return true;
+    }
+    let word = rules[i - 1];
+    agree(address, Rule::address(word), Rule::length(word))
+}
+
+// How many of the live words are up to the longest match of the address, 0 if there is none; `first` are up to the address itself. A last
+// word that does not contain the address leaves only the shorter prefixes that contain both it and the address.
+fn climb(rules: &[u64], live: usize, address: u32, first: usize) -> usize
+    requires { ⌜ Listed (now rules) live ⌝ }
+    requires { ⌜ CountUpTo (now rules) live 32 address first ⌝ }
+    ensures { λ r. ⌜ ClimbIs (now (rules .entry)) live address r ⌝ }
+{
+    let mut length = 32;
+    let mut i = first;
+    while !is_settled(rules, live, address, i) {
+        length = shared(address, Rule::address(rules[i - 1]), length);
+        i = up_to(rules, live, address, length);
+    }
+    i
+}
+
+// Where the next rule after the address starts, or the number of addresses; `first` of the live words are up to the address.
+fn next(rules: &[u64], live: usize, address: u32, first: usize) -> u64
+    requires { ⌜ Listed (now rules) live ⌝ }
+    requires { ⌜ CountUpTo (now rules) live 32 address first ⌝ }
+    ensures { λ r. ⌜ NextIs (routes (now (rules .entry))) address r ⌝ }
+{
+    if first == live {
+        return ADDRESSES;
+    }
+    Rule::address(rules[first]) as u64
+}
+
+// The lower of the two.
+fn lower(a: u64, b: u64) -> u64
+    ensures { λ r. ⌜ LowerIs a b r ⌝ }
+{
+    if a < b {
+        return a;
+    }
+    b
+}
+
+// The address past the prefix of this address and length.
+fn past(address: u32, length: u32) -> u64
+    requires { ⌜ length ≤ 32 ⌝ }
+    ensures { λ r. ⌜ r ≡ address + span length ⌝ }
+{
+    address as u64 + (1u64 << (32 - length) as u64)
+}
+
+// The run of a match: to the end of its prefix, and no further than `limit`.
+fn run_of(word: u64, limit: u64) -> Run
+    requires { ⌜ IsRoute (routeOf word) ⌝ }
+    ensures { λ r. ⌜ MatchRunIs word limit (r .cell) (r .end) ⌝ }
+{
+    let length = Rule::length(word);
+    Run {
+        cell: Cell::pack(Rule::hop(word), length),
+        end: lower(limit, past(Rule::address(word), length)),
+    }
+}
+
+// The longest match of an address among the first `live` words, and its run.
+pub fn longest(rules: &[u64], live: usize, address: u32) -> Run
+    requires { ⌜ Listed (now rules) live ⌝ }
+    ensures { λ r. ⌜ RunIs (routes (now (rules .entry))) address (r .cell) (r .end) ⌝ }
+{
+    let first = up_to(rules, live, address, 32);
+    let limit = next(rules, live, address, first);
+    let i = climb(rules, live, address, first);
+    if i == 0 {
+        return Run {
+            cell: Cell::EMPTY,
+            end: limit,
+        };
+    }
+    run_of(rules[i - 1], limit)
+}
