@@ -2,6 +2,7 @@
 -- contract leaves one answer.
 pub mod Direct
 pub mod Reading
+pub mod Spans
 pub mod Answers
 pub mod Showing
 pub mod Words

@@ -76,6 +76,13 @@ module _ {t : ℕ → Bool} {P : ℕ → Type 0} (d : (i : ℕ) → Decides (P i
   pub where-none : (xs : List ℕ) → ((i : ℕ) → P i → ⊥) → xs ≡ changeWhere t p xs
   where-none xs n = is-where xs xs refl (λ i h y. absurd (n i y)) (λ i h m. refl)
 
+  -- another function that gives the same where P holds
+  pub where-cong : (q : ℕ → ℕ → ℕ) (xs : List ℕ) → ((i x : ℕ) → P i → q i x ≡ p i x) → changeWhere t q xs ≡ changeWhere t p xs
+  where-cong q xs same =
+      is-where xs (changeWhere t q xs) (length-where t q xs)
+      (λ i h y. getD-on t q xs i (d i) h y ∙ same i (getD xs i 0) y)
+      (λ i h n. getD-off t q xs i (d i) n)
+
   -- where P holds at i alone, one store is all
   pub where-one : (xs : List ℕ) (i v : ℕ) → v ≡ p i (getD xs i 0) → P i → ((j : ℕ) → P j → j ≡ i) → set xs i v ≡ changeWhere t p xs
   where-one xs i v e y only =

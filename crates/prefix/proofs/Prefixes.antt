@@ -104,6 +104,14 @@ by-range {p} {a} w low high =
           (lt-of-lt-of-le high (le-of-eq (ap (λ (x : ℕ). x + size) first ∙ simp (add-mul, one-mul)))));
     }
 
+-- a prefix that lies inside another ends no later
+pub ends-inside : {p q : Prefix} → WellFormed p → WellFormed q → Encloses p q → q .address + span (q .length) ≤ p .address + span (p .length)
+ends-inside {p} {q} v w e =
+    let some = pow-pos (32 - q .length) in
+    let last : Contains q (q .address + (span (q .length) - 1)) = by-range w (omega arith) (omega arith) in
+    let inside = in-range v (nested w (e .longer) (e .inside) (own q) last) in
+    omega arith
+
 -- ---- a prefix is known by its key
 
 pub same-key : {p q : Prefix} → WellFormed p → WellFormed q → key p ≡ key q → p ≡ q

@@ -1,0 +1,130 @@
+-- Demand 2: after every history, look up answers each address of the territory with the hop of the longest live prefix that contains it,
+-- and with 8 exactly if none does. Assumes nothing.
+use mathlib.Core.Path.{_≡_, refl, sym, ap, subst, _∙_}
+use mathlib.Core.Bool.{Bool, true, false, cond}
+use mathlib.Core.List.{List}
+use Prim.Native.Nat.{ℕ, _+_, _*_, _/_, _%_, _≤_, _<_}
+use native.Mathlib.Omega.{arith}
+use lib.Dec.{ltb, lit≤}
+use lib.ListN.{length, getD}
+use Rattle.ground.proofs.Tests.{leb?, ltb?, eqb?, passes, stops}
+use Rattle.prefix.specs.declared.Prefix.{Prefix}
+use Rattle.prefix.specs.Prefixes.{top, Contains}
+use Rattle.prefix.specs.Price.{isOpen, blocks, blockStart}
+use Rattle.prefix.specs.Routes.{Route, Match, no-route, via, best, IsBest, none, found}
+use Rattle.prefix.proofs.Prefixes.{in-range}
+use Rattle.prefix.proofs.Best.{best-is}
+use Rattle.prefix.proofs.Blocks.{closed, closed-short, block-top}
+use Rattle.cells.specs.declared.look.Answer.{Answer}
+use Rattle.cells.specs.Cells.{empty, pointerBit, pointTo, isPointer, segmentOf, hopOf, isDirect, cellOf}
+use Rattle.cells.specs.Lookup.{refused, blockOf, verdictOf, saysOf, lookUp, found as found-hop}
+use Rattle.cells.proofs.Direct.{isDirect?}
+use Rattle.cells.proofs.Reading.{LentToRead, Stands, block-inside, goes-on}
+use Rattle.refusals.specs.Memory.{Lent}
+use Rattle.cells.proofs.Spans.{aligned}
+use Rattle.refusals.proofs.Lending.{IsLent}
+use Rattle.history.specs.History.{History, memory, live, IsAnswer, routed, no-route as unrouted}
+use Rattle.history.proofs.Matches.{Good, best-good, cell-direct}
+use Rattle.history.proofs.Invariant.{Inv}
+use Rattle.history.proofs.Histories.{inv-history}
+
+-- what a match is answered with
+abbrev answerOf : Match → Answer
+answerOf no-route = refused 8
+answerOf (via h l) = found-hop h
+
+-- m goes through a prefix of at most l bits, or nowhere
+abbrev AtMost : ℕ → Match → Type 0
+AtMost limit no-route = Unit {0}
+AtMost limit (via h l) = l ≤ limit
+
+verdict-of : (limit : ℕ) (m : Match) → Good m → AtMost limit m → verdictOf limit (cellOf m) ≡ answerOf m
+unfolding verdictOf
+verdict-of limit no-route g s = refl
+verdict-of limit (via h l) g s =
+    let cell = cellOf (via h l) in
+    let hop : hopOf cell ≡ h = omega arith in
+    rw (
+      stops (eqb? cell empty) (λ e. omega arith),
+      passes (isDirect? limit cell) (record { some-hop = omega arith; hop-fits = omega arith; length-fits = omega arith }),
+      hop,
+    )
+
+module _ (t : Prefix) (rs : List Route) (m : Lent) (I : Inv t rs m) (a : ℕ) (c : Contains t a) where
+  stands : Stands (length (m .first)) (length (m .long)) t a
+  stands = record {
+    lent = record {
+      territory = I .territory;
+      a-cell-a-block = I .tables .firsts;
+      whole-segments = omega (arith, I .tables .longs);
+      not-too-many = omega (arith, I .tables .longs, I .few-owners);
+    };
+    inside = c;
+  }
+
+  -- the address in its block
+  in-block : blockStart t (blockOf t a) + a % 256 ≡ a
+  in-block = omega (arith, aligned (I .territory), in-range (I .territory .formed) c .0)
+
+  says-best : saysOf (m .long) (a % 256) (getD (m .first) (blockOf t a) 0) ≡ answerOf (best rs a)
+  unfolding saysOf
+  says-best = go (isOpen rs (blockStart t (blockOf t a))) refl
+    where
+      here : blockOf t a < blocks t
+      here = block-inside (I .territory) c
+
+      good : Good (best rs a)
+      good = best-good rs a (I .list .all)
+
+      go : (x : Bool) → isOpen rs (blockStart t (blockOf t a)) ≡ x
+          → cond (isPointer (getD (m .first) (blockOf t a) 0))
+          (cond (ltb (segmentOf (getD (m .first) (blockOf t a) 0)) (length (m .long) / 256))
+          (verdictOf 32 (getD (m .long) (segmentOf (getD (m .first) (blockOf t a) 0) * 256 + a % 256) 0)) (refused 4))
+          (verdictOf 24 (getD (m .first) (blockOf t a) 0))
+          ≡ answerOf (best rs a)
+      go true o =
+          let S = I .tables .open-at (blockOf t a) here o in
+          let q = S .points in
+          let cell = getD (m .first) (blockOf t a) 0 in
+          let s : segmentOf cell ≡ S .number = omega arith in
+          rw (
+            passes (leb? pointerBit cell) (omega arith),
+            s,
+            passes (ltb? (S .number) (length (m .long) / 256)) (omega (arith, S .lent, I .tables .longs)),
+            S .cells (a % 256) (omega arith),
+            in-block,
+          ) (verdict-of 32 (best rs a) good (at-most (best rs a) good))
+        where
+          at-most : (x : Match) → Good x → AtMost 32 x
+          at-most no-route g = tt
+          at-most (via h l) g = g .2
+      go false o =
+          let A = blockStart t (blockOf t a) in
+          let z : A % 256 ≡ 0 = omega (arith, aligned (I .territory)) in
+          let one : best rs A ≡ best rs a =
+          closed 24 rs A a (lit≤ tt) (I .list .all) o (sym (block-top A (a % 256) z (omega arith)) ∙ ap (top 24) in-block) in
+          let cell : getD (m .first) (blockOf t a) 0 ≡ cellOf (best rs a) = I .tables .closed (blockOf t a) here o ∙ ap cellOf one in
+          rw (
+            cell,
+            stops (leb? pointerBit (cellOf (best rs a))) (λ g. omega (arith, cell-direct (best rs a) good)),
+          ) (verdict-of 24 (best rs a) good (short (best rs a) one))
+        where
+          short : (x : Match) → best rs (blockStart t (blockOf t a)) ≡ x → AtMost 24 x
+          short no-route e = tt
+          short (via h l) e = closed-short 24 rs (blockStart t (blockOf t a)) h l (I .list .all) o e
+
+  look-up-best : lookUp (m .first) (m .long) t a ≡ answerOf (best rs a)
+  unfolding lookUp
+  look-up-best = sym (goes-on refused (length (m .first)) (length (m .long)) t a _ stands) ∙ says-best
+
+  is-answer : IsAnswer rs a (lookUp (m .first) (m .long) t a)
+  is-answer = go (best-is rs a)
+    where
+      go : IsBest rs a (best rs a) → IsAnswer rs a (lookUp (m .first) (m .long) t a)
+      go (none e n) = unrouted n (look-up-best ∙ ap answerOf e)
+      go (found r e l) = routed r l (look-up-best ∙ ap answerOf e)
+
+-- Demand 2.
+pub demand-2 : (t : Prefix) (m : Lent) → IsLent m t → (h : History) (a : ℕ) → Contains t a
+    → IsAnswer (live t m h) a (lookUp (memory t m h .first) (memory t m h .long) t a)
+demand-2 t m l h a c = is-answer t (live t m h) (memory t m h) (inv-history t m l h) a c

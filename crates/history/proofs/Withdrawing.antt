@@ -1,0 +1,127 @@
+-- Withdraw keeps the tables: what it leaves is the tables of the list without the prefix. Assumes nothing.
+use mathlib.Core.Path.{_≡_, refl, sym, ap, subst, _∙_}
+use mathlib.Core.Bool.{Bool, true, false, cond, true≢false}
+use mathlib.Core.List.{List, List·Memᴰ as Mem}
+use Prim.Native.Nat.{ℕ, _≤_, _<_}
+use native.Mathlib.Omega.{arith}
+use lib.ListN.{getD}
+use lib.Seq.{getD-set-other}
+use Rattle.ground.proofs.Tests.{Decides, holds, fails, ltb?, and?, not?, iff?, passes, denies, by-test}
+use Rattle.ground.proofs.Cases.{by-lt, by-eq}
+use Rattle.prefix.specs.declared.Prefix.{Prefix}
+use Rattle.prefix.specs.Prefixes.{contains, WellFormed, Encloses, Territory}
+use Rattle.prefix.specs.Price.{opens, isOpen, blocks, blockStart}
+use Rattle.prefix.specs.Routes.{Route, best, without, AllRoutes, Ascending}
+use Rattle.prefix.proofs.Blocks.{Opens, opens?, opened?, opened-without-other, opened-fewer}
+use Rattle.prefix.proofs.Changes.{without-routes}
+use Rattle.cells.specs.Cells.{pointerBit, pointTo, segmentOf, cellOf}
+use Rattle.cells.specs.Lookup.{blockOf}
+use Rattle.cells.proofs.Reading.{block-inside}
+use Rattle.refusals.specs.Memory.{Lent}
+use Rattle.tables.specs.Cellwise.{unpaintCell}
+use Rattle.updates.proofs.Taking.{closes?}
+use Rattle.updates.specs.Effects.{repainted, closedAt, closes, closed}
+use Rattle.history.proofs.Tables.{Tables, retold, pointer-stays, repaint-step, close-step}
+use Rattle.history.proofs.Matches.{best-good, cell-direct, unpaint-best}
+use Rattle.history.proofs.LiveTables.{TablesOf}
+use Rattle.cells.proofs.Spans.{opens-own, opens-only}
+
+module _ (t p : Prefix) (rs : List Route) (m : Lent) (T : TablesOf t rs m) (h : Territory t) (w : WellFormed p)
+    (e : Encloses t p) (all : AllRoutes rs) (order : Ascending rs) (r : Route) (live : Mem r rs) (is : r .prefix ≡ p) where
+  abbrev b : ℕ
+  b = blockOf t (p .address)
+
+  abbrev left : List Route
+  left = without p rs
+
+  abbrev O : ℕ → Bool
+  O k = isOpen rs (blockStart t k)
+
+  abbrev Q : ℕ → Bool
+  Q k = isOpen left (blockStart t k)
+
+  here : b < blocks t
+  here = block-inside h (e .inside)
+
+  -- a block that the prefix does not open is as open as it was
+  same-open : (k : ℕ) → ¬ Opens 24 p (blockStart t k) → Q k ≡ O k
+  same-open k n = opened-without-other 24 p rs (blockStart t k) all w n
+
+  others : (k : ℕ) → ¬ (k ≡ b) → Q k ≡ O k
+  others k d = same-open k (λ o. d (opens-only t p k h e o))
+
+  -- the block of a live prefix longer than 24 was open
+  was-open : 24 < p .length → O b ≡ true
+  was-open long =
+      passes (opened? 24 rs (blockStart t b)) (r, live, subst (λ (q : Prefix). Opens 24 q (blockStart t b)) (sym is) (opens-own t p h e long))
+
+  repainted-tables : Tables t O (λ a. cellOf (best left a)) (repainted t p (unpaintCell (p .length) left) m .first)
+      (repainted t p (unpaintCell (p .length) left) m .long) (m .owners)
+  unfolding repainted
+  repainted-tables =
+      let unpainted : (a : ℕ) → cellOf (best left a)
+      ≡ cond (contains p a) (unpaintCell (p .length) left a (cellOf (best rs a))) (cellOf (best rs a)) =
+      λ a. sym (unpaint-best p rs a all order w) in
+      retold (repaint-step T p (unpaintCell (p .length) left)
+      (λ a. subst (λ (x : ℕ). x < pointerBit) (unpainted a) (cell-direct (best left a) (best-good left a (without-routes p rs all)))))
+      (λ k l. refl) unpainted
+
+  -- the pointer of an open block names its segment
+  own-segment : (first long owners : List ℕ) {C : ℕ → ℕ} → Tables t O C first long owners → O b ≡ true
+      → getD first b 0 ≡ pointTo (segmentOf (getD first b 0))
+  own-segment first long owners U o = let q = U .open-at b here o .points in omega arith
+
+  pub withdrawn-tables : TablesOf t left (closed t p left (repainted t p (unpaintCell (p .length) left) m))
+  unfolding closed closedAt repainted
+  withdrawn-tables = go (closes t p left) (closes? t p left)
+    where
+      before : Lent
+      before = repainted t p (unpaintCell (p .length) left) m
+
+      go : (x : Bool) → Decides ((24 < p .length) × ¬ (Q b ≡ true)) x
+          → Tables t Q (λ a. cellOf (best left a))
+          (cond x (closedAt b (segmentOf (getD (before .first) b 0)) (cellOf (best left (blockStart t b))) before) before .first)
+          (cond x (closedAt b (segmentOf (getD (before .first) b 0)) (cellOf (best left (blockStart t b))) before) before .long)
+          (cond x (closedAt b (segmentOf (getD (before .first) b 0)) (cellOf (best left (blockStart t b))) before) before .owners)
+      go x (holds c) =
+          close-step repainted-tables b (segmentOf (getD (before .first) b 0)) here (was-open (c .0))
+          (own-segment (before .first) (before .long) (before .owners) repainted-tables (was-open (c .0)))
+          (is-false (Q b) (c .1)) others
+        where
+          is-false : (y : Bool) → ¬ (y ≡ true) → y ≡ false
+          is-false true n = absurd (n refl)
+          is-false false n = refl
+      go x (fails c) =
+          retold repainted-tables (λ k l.
+          by-lt 24 (p .length)
+          (λ long.
+          by-eq k b
+          (λ q. ap Q q ∙ still (Q b) refl (λ n. c (long, n)) ∙ sym (ap O q ∙ was-open long))
+          (others k))
+          (λ short. same-open k (λ o. let g = o .long in omega arith)))
+          (λ a. refl)
+        where
+          still : (y : Bool) → Q b ≡ y → ¬ ¬ (Q b ≡ true) → y ≡ true
+          still true q n = refl
+          still false q n = absurd (n (λ z. true≢false (sym z ∙ q)))
+
+  -- ---- what the count needs: no block opens, and one that stays open keeps its pointer
+
+  pub only-closing : (k : ℕ) → Q k ≡ true → O k ≡ true
+  only-closing k q = opened-fewer 24 p rs (blockStart t k) q
+
+  pub withdrawn-keeps : (k : ℕ) → k < blocks t → O k ≡ true → Q k ≡ true
+      → getD (closed t p left (repainted t p (unpaintCell (p .length) left) m) .first) k 0 ≡ getD (m .first) k 0
+  unfolding closed closedAt repainted
+  withdrawn-keeps k l o q =
+      go (closes t p left) (closes? t p left) ∙ pointer-stays T p (unpaintCell (p .length) left) k (T .open-at k l o .number) l (T .open-at k l o .points)
+    where
+      before : Lent
+      before = repainted t p (unpaintCell (p .length) left) m
+
+      go : (x : Bool) → Decides ((24 < p .length) × ¬ (Q b ≡ true)) x
+          → getD (cond x (closedAt b (segmentOf (getD (before .first) b 0)) (cellOf (best left (blockStart t b))) before) before .first) k 0
+          ≡ getD (before .first) k 0
+      go x (holds c) =
+          getD-set-other (before .first) b k (cellOf (best left (blockStart t b))) 0 (λ e. c .1 (ap Q (sym e) ∙ q))
+      go x (fails c) = refl

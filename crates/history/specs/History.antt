@@ -1,0 +1,68 @@
+-- A history: cleared memory, then any number of announce, withdraw and re-home calls, refused ones among them. Each step is the outcome
+-- that the call's own contract gives. What is live is read off the history. Assumes nothing.
+use mathlib.Core.Path.{_≡_}
+use Prim.Native.Nat.{ℕ}
+use mathlib.Core.Bool.{Bool, cond}
+use mathlib.Core.List.{List, [], List·Memᴰ as Mem}
+use lib.Dec.{eqb}
+use Rattle.prefix.specs.declared.Prefix.{Prefix}
+use Rattle.prefix.specs.Prefixes.{Contains}
+use Rattle.prefix.specs.Routes.{Route, with-route, without, IsLongest}
+use Rattle.cells.specs.declared.look.Answer.{Answer}
+use Rattle.cells.specs.Lookup.{found, refused}
+use Rattle.refusals.specs.Memory.{Lent}
+use Rattle.updates.specs.declared.Report.{Report}
+use Rattle.updates.specs.Effects.{cleared}
+use Rattle.updates.specs.Calls.{Outcome, announce, withdraw, reHome}
+
+pub data Call : Type 0 where
+  announces : Route → Call
+  withdraws : Prefix → Call
+  re-homes : Route → Call
+
+-- the prefix that a call names
+abbrev pub named : Call → Prefix
+named (announces r) = r .prefix
+named (withdraws p) = p
+named (re-homes r) = r .prefix
+
+-- what a call answers and leaves: the definition that its contract cites
+abbrev pub step : Prefix → Call → Lent → Outcome
+step t (announces r) m = announce t r m
+step t (withdraws p) m = withdraw t p m
+step t (re-homes r) m = reHome t r m
+
+pub data History : Type 0 where
+  start : History
+  _then_ : History → Call → History
+
+infixl 30 _then_
+-- the lent memory after a history in the territory t, from memory m that clear sets to 0
+unfoldable pub memory : Prefix → Lent → History → Lent
+memory t m start = cleared m
+memory t m (h then c) = step t c (memory t m h) .lent
+
+-- what a call reports after a history
+unfoldable pub report : Prefix → Lent → History → Call → Report
+report t m h c = step t c (memory t m h) .report
+
+-- the call is accepted after the history
+unfoldable pub isAccepted : Prefix → Lent → History → Call → Bool
+isAccepted t m h c = eqb (report t m h c .code) 0
+
+-- what an accepted call makes of the live list: a prefix is live from an accepted announce until an accepted withdraw, and its hop is the
+-- last one accepted for it
+abbrev pub change : Call → List Route → List Route
+change (announces r) rs = with-route r rs
+change (withdraws p) rs = without p rs
+change (re-homes r) rs = with-route r rs
+
+-- the live prefixes with their hops, read off the history
+unfoldable pub live : Prefix → Lent → History → List Route
+live t m start = []
+live t m (h then c) = cond (isAccepted t m h c) (change c (live t m h)) (live t m h)
+
+-- an answer is that of the longest match: the hop of the longest live prefix that contains the address, or 8 where none does
+pub data IsAnswer (rs : List Route) (a : ℕ) (answer : Answer) : Type 0 where
+  routed : (r : Route) → IsLongest rs a r → answer ≡ found (r .hop) → IsAnswer rs a answer
+  no-route : ((r : Route) → Mem r rs → ¬ Contains (r .prefix) a) → answer ≡ refused 8 → IsAnswer rs a answer

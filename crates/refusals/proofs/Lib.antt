@@ -1,0 +1,6 @@
+-- Laws of what is lent, of damage and of the numbers of refusal; the crates above cite them.
+pub mod Lending
+pub mod Soundness
+pub mod Walking
+pub mod FreeWords
+pub mod Refusing

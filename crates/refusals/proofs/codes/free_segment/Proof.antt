@@ -1,0 +1,61 @@
+-- `codes::free_segment` meets its contract. The invariant: no owner word before i is 0. Assumes nothing.
+use mathlib.Core.Path.{_≡_, sym}
+use Prim.Native.Nat.{ℕ, _-_, _≤_, _<_}
+use native.Mathlib.Omega.{arith}
+use lib.ListN.{length, getD, List·getD-eq-default}
+use borrow.Author.Count.{below-more}
+use borrow.Author.Needs.{needs}
+use Rattle.refusals.proofs.FreeWords.{lowest-is}
+use Rattle.refusals.proofs.codes.free_segment.Statement.{statement}
+use Rattle.refusals.proofs.codes.free_segment.Tie as tie
+
+abbrev Inv-loop : tie.InvT-loop
+Inv-loop owners i₀ i = (i ≤ length owners) × ((k : ℕ) → k < i → getD owners k 0 ≡ 0 → ⊥)
+
+abbrev μ-loop : tie.MeasureT-loop
+μ-loop owners i₀ i = length owners - i
+
+loop-holds : tie.Need-loop-holds Inv-loop μ-loop
+loop-holds c = search needs
+
+mul-if1 : tie.Need-mul-if1 Inv-loop μ-loop
+mul-if1 c = search needs
+
+shared-slice-read-if1 : tie.Need-shared-slice-read-if1 Inv-loop μ-loop
+shared-slice-read-if1 c = search needs
+
+returns : tie.Need-returns Inv-loop μ-loop
+returns c =
+    let s = c .before .before .before .before .args in
+    let l = c .before .before .before .loop in
+    sym (lowest-is (s .owners .now) (l .i) (omega arith) (l .inv .1) (c .if1 .taken))
+
+add-i : tie.Need-add-i Inv-loop μ-loop
+add-i c = search needs
+
+loop-less : tie.Need-loop-less Inv-loop μ-loop
+loop-less c = search needs
+
+loop-again : tie.Need-loop-again Inv-loop μ-loop
+loop-again c = (search needs, below-more _ _ (c .before .before .before .loop .inv .1) (c .if1 .left))
+
+returns-2 : tie.Need-returns-2 Inv-loop μ-loop
+returns-2 c =
+    let s = c .before .before .args in
+    let l = c .before .loop in
+    sym (lowest-is (s .owners .now) (l .i) (omega arith) (l .inv .1) (List·getD-eq-default (s .owners .now) 0 (c .loop-test .left)))
+
+pub free-segment-spec : {M : Type 1} → statement M
+free-segment-spec =
+    tie.close
+    (tie.spec
+    Inv-loop
+    μ-loop
+    loop-holds
+    mul-if1
+    shared-slice-read-if1
+    returns
+    add-i
+    loop-less
+    loop-again
+    returns-2)

@@ -1,0 +1,68 @@
+-- `damage::clean_run` meets its contract. The invariant: `clean` says whether the first i cells of the run are. Assumes nothing.
+use mathlib.Core.Path.{_≡_, refl, sym, ap, ap₂, _∙_}
+use mathlib.Core.Bool.{_&&_}
+use Prim.Native.Nat.{_-_, _≤_}
+use native.Mathlib.Omega.{arith}
+use borrow.Author.Needs.{needs}
+use Rattle.ground.specs.Lists.{everyBelow}
+use Rattle.refusals.specs.Walk.{cleanRun}
+use Rattle.refusals.proofs.Soundness.{clean-more}
+use Rattle.refusals.proofs.damage.clean_run.Statement.{statement}
+use Rattle.refusals.proofs.damage.clean_run.Tie as tie
+
+abbrev Inv-loop : tie.InvT-loop
+Inv-loop cells longest from count clean₀ i₀ clean i = (i ≤ count) × (clean ≡ cleanRun longest cells from i)
+
+abbrev μ-loop : tie.MeasureT-loop
+μ-loop cells longest from count clean₀ i₀ clean i = count - i
+
+loop-holds : tie.Need-loop-holds Inv-loop μ-loop
+unfolding cleanRun everyBelow
+loop-holds c = (search needs, refl)
+
+add-is-clean : tie.Need-add-is-clean Inv-loop μ-loop
+add-is-clean c = search needs
+
+mul-is-clean : tie.Need-mul-is-clean Inv-loop μ-loop
+mul-is-clean c = search needs
+
+shared-slice-read-is-clean : tie.Need-shared-slice-read-is-clean Inv-loop μ-loop
+shared-slice-read-is-clean c = search needs
+
+is-clean-requires : tie.Need-is-clean-requires Inv-loop μ-loop
+is-clean-requires c κs = search needs
+
+add-i : tie.Need-add-i Inv-loop μ-loop
+add-i c = search needs
+
+loop-less : tie.Need-loop-less Inv-loop μ-loop
+loop-less c = search needs
+
+loop-again : tie.Need-loop-again Inv-loop μ-loop
+loop-again c =
+    let s = c .before .before .before .before .before .args in
+    let l = c .before .before .before .loop in
+    (search needs, ap₂ _&&_ (l .inv .1) (c .is-clean .ensures) ∙ sym (clean-more (s .longest) (s .cells .now) (s .from) (l .i)))
+
+returns : tie.Need-returns Inv-loop μ-loop
+returns c =
+    let s = c .before .before .before .args in
+    let l = c .before .loop in
+    let end : l .i ≡ s .count = omega arith in
+    l .inv .1 ∙ ap (cleanRun (s .longest) (s .cells .now) (s .from)) end
+
+pub clean-run-spec : {M : Type 1} → statement M
+clean-run-spec =
+    tie.close
+    (tie.spec
+    Inv-loop
+    μ-loop
+    loop-holds
+    add-is-clean
+    mul-is-clean
+    shared-slice-read-is-clean
+    is-clean-requires
+    add-i
+    loop-less
+    loop-again
+    returns)

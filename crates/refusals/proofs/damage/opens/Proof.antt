@@ -1,0 +1,22 @@
+-- `damage::opens` meets its contract: where no rule longer than 24 was passed yet, this word decides. Assumes nothing.
+use mathlib.Core.Path.{sym, ap, _∙_}
+use mathlib.Core.Bool.{Bool, _||_}
+use lib.Dec.{ltb}
+use Rattle.rules.specs.Words.{prefixOf}
+use borrow.Author.Needs.{needs}
+use Rattle.refusals.proofs.damage.opens.Statement.{statement}
+use Rattle.refusals.proofs.damage.opens.Tie as tie
+
+returns : tie.Need-returns
+returns c = search needs
+
+length-requires : tie.Need-length-requires
+length-requires c κs = search needs
+
+returns-2 : tie.Need-returns-2
+returns-2 c =
+    let s = c .before .before .args in
+    ap (ltb 24) (c .length .ensures) ∙ sym (ap (λ (t : Bool). t || ltb 24 (prefixOf (s .word) .length)) (c .before .if1 .left))
+
+pub opens-spec : {M : Type 1} → statement M
+opens-spec = tie.close (tie.spec returns length-requires returns-2)

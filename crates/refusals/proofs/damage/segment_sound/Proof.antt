@@ -1,0 +1,59 @@
+-- `damage::segment_sound` meets its contract: each test that fails is one that a sound segment passes. Assumes nothing.
+use mathlib.Core.Path.{sym, _∙_}
+use Prim.Native.Nat.{_*_}
+use native.Mathlib.Omega.{arith}
+use Rattle.ground.proofs.Tests.{iff?, stops, same-test}
+use Rattle.refusals.proofs.Soundness.{cleanRun?, segmentSound?}
+use borrow.Author.Needs.{needs}
+use Rattle.refusals.proofs.damage.segment_sound.Statement.{statement}
+use Rattle.refusals.proofs.damage.segment_sound.Tie as tie
+
+returns : tie.Need-returns
+returns c =
+    let s = c .before .before .before .args in
+    sym (stops (segmentSound? (s .long .now) (s .owners .now) (s .block) (s .segment)) (λ h. omega (arith, h .lent)))
+
+mul-if2 : tie.Need-mul-if2
+mul-if2 c = search needs
+
+shared-slice-read-if2 : tie.Need-shared-slice-read-if2
+shared-slice-read-if2 c = search needs
+
+cast-if2 : tie.Need-cast-if2
+cast-if2 c = omega (arith, c .shared-slice-known3 .given (c .before .before .before .before .args .segment))
+
+add-if2 : tie.Need-add-if2
+add-if2 c = search needs
+
+returns-2 : tie.Need-returns-2
+returns-2 c =
+    let s = c .before .before .before .before .before .args in
+    sym (stops (segmentSound? (s .long .now) (s .owners .now) (s .block) (s .segment)) (λ h. c .if2 .taken (omega (arith, h .owned))))
+
+mul-clean-run : tie.Need-mul-clean-run
+mul-clean-run c = search needs
+
+clean-run-requires : tie.Need-clean-run-requires
+clean-run-requires c κs = search needs
+
+returns-3 : tie.Need-returns-3
+returns-3 c =
+    let s = c .before .before .before .before .before .before .args in
+    c .clean-run .ensures
+    ∙ same-test (cleanRun? 32 (s .long .now) (s .segment * 256) 256)
+    (iff? (segmentSound? (s .long .now) (s .owners .now) (s .block) (s .segment)) (λ h. h .clean)
+    (λ k. record { lent = omega arith; owned = omega arith; clean = k }))
+
+pub segment-sound-spec : {M : Type 1} → statement M
+segment-sound-spec =
+    tie.close
+    (tie.spec
+    returns
+    mul-if2
+    shared-slice-read-if2
+    cast-if2
+    add-if2
+    returns-2
+    mul-clean-run
+    clean-run-requires
+    returns-3)

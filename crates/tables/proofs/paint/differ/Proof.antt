@@ -1,0 +1,14 @@
+-- `paint::differ` meets its contract. Assumes nothing.
+use mathlib.Core.Path.{sym}
+use Rattle.ground.proofs.Lists.{differs-same, differs-other}
+use Rattle.tables.proofs.paint.differ.Statement.{statement}
+use Rattle.tables.proofs.paint.differ.Tie as tie
+
+returns : tie.Need-returns
+returns c = sym (differs-same _ _ (c .if1 .taken))
+
+returns-2 : tie.Need-returns-2
+returns-2 c = sym (differs-other _ _ (c .if1 .left))
+
+pub differ-spec : {M : Type 1} → statement M
+differ-spec = tie.close (tie.spec returns returns-2)

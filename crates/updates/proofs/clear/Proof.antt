@@ -1,0 +1,89 @@
+-- `clear` meets its contract: a refusal writes nothing, and else each slice is set to 0. Assumes nothing.
+use mathlib.Core.Path.{sym, _∙_}
+use Rattle.refusals.specs.Memory.{Lent, memory}
+use Rattle.updates.specs.Effects.{cleared}
+use Rattle.updates.proofs.Outcomes.{clear-refused, clear-accepted}
+use borrow.Author.Needs.{needs}
+use Rattle.updates.proofs.clear.Statement.{statement}
+use Rattle.updates.proofs.clear.Tie as tie
+
+-- the memory at entry
+abbrev at-entry : tie.Start → Lent
+at-entry s = memory (s .args .first .now) (s .args .long .now) (s .args .owners .now) (s .args .rules .now)
+
+abbrev start : tie.After-clear-checked → tie.Start
+start c = c .before .before .before .before .before .before .before .before .before
+
+clear-checked-requires : tie.Need-clear-checked-requires
+clear-checked-requires c κs = search needs
+
+same-length : tie.Need-same-length
+same-length c = search needs
+
+same-length-2 : tie.Need-same-length-2
+same-length-2 c = search needs
+
+same-length-3 : tie.Need-same-length-3
+same-length-3 c = search needs
+
+same-length-4 : tie.Need-same-length-4
+same-length-4 c = search needs
+
+returns : tie.Need-returns
+returns c = let k = c .before in let s = start k in clear-refused (s .args .territory) (at-entry s) (k .clear-checked .ensures) (c .if1 .taken)
+
+zero-cells-requires : tie.Need-zero-cells-requires
+zero-cells-requires c κs = search needs
+
+zero-cells-requires-2 : tie.Need-zero-cells-requires-2
+zero-cells-requires-2 c κs = search needs
+
+zero-cells-requires-3 : tie.Need-zero-cells-requires-3
+zero-cells-requires-3 c κs = search needs
+
+zero-words-requires : tie.Need-zero-words-requires
+zero-words-requires c κs = search needs
+
+same-length-5 : tie.Need-same-length-5
+same-length-5 c = search needs
+
+same-length-6 : tie.Need-same-length-6
+same-length-6 c = search needs
+
+same-length-7 : tie.Need-same-length-7
+same-length-7 c = search needs
+
+same-length-8 : tie.Need-same-length-8
+same-length-8 c = search needs
+
+returns-2 : tie.Need-returns-2
+unfolding cleared
+returns-2 c =
+    let rules = c .before .before in
+    let owners = rules .before .before .before .before in
+    let long = owners .before .before .before .before in
+    let first = long .before .before .before .before in
+    let k = first .before .before .before in
+    let s = start k in
+    clear-accepted (s .args .territory) (at-entry s) (sym (k .clear-checked .ensures) ∙ first .before .before .if1 .left)
+    (first .zero-cells .ensures) (long .zero-cells2 .ensures) (owners .zero-cells3 .ensures) (rules .zero-words .ensures)
+
+pub clear-spec : {M : Type 1} → statement M
+clear-spec =
+    tie.close
+    (tie.spec
+    clear-checked-requires
+    same-length
+    same-length-2
+    same-length-3
+    same-length-4
+    returns
+    zero-cells-requires
+    zero-cells-requires-2
+    zero-cells-requires-3
+    zero-words-requires
+    same-length-5
+    same-length-6
+    same-length-7
+    same-length-8
+    returns-2)

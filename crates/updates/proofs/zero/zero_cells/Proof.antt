@@ -1,0 +1,52 @@
+-- `zero::zero_cells` meets its contract: the invariant is `Zeroed`. Assumes nothing.
+use Prim.Native.Nat.{_-_}
+use native.Mathlib.Omega.{arith}
+use borrow.Author.Needs.{needs}
+use Rattle.updates.proofs.Zeros.{Zeroed, zeroed-none, zeroed-more, zeroed-all}
+use Rattle.updates.proofs.zero.zero_cells.Statement.{statement}
+use Rattle.updates.proofs.zero.zero_cells.Tie as tie
+
+abbrev Inv-loop : tie.InvT-loop
+Inv-loop cells₀ i₀ cells i = Zeroed cells₀ cells i
+
+abbrev μ-loop : tie.MeasureT-loop
+μ-loop cells₀ i₀ cells i = lib.ListN.length cells₀ - i
+
+loop-holds : tie.Need-loop-holds Inv-loop μ-loop
+loop-holds c = zeroed-none _
+
+mul-cells : tie.Need-mul-cells Inv-loop μ-loop
+mul-cells c = search needs
+
+slice-write-cells : tie.Need-slice-write-cells Inv-loop μ-loop
+slice-write-cells c = search needs
+
+add-i : tie.Need-add-i Inv-loop μ-loop
+add-i c = search needs
+
+loop-less : tie.Need-loop-less Inv-loop μ-loop
+loop-less c = omega (arith, c .before .loop .inv .long)
+
+loop-again : tie.Need-loop-again Inv-loop μ-loop
+loop-again c = zeroed-more (c .loop-test .taken) (c .before .loop .inv)
+
+same-length : tie.Need-same-length Inv-loop μ-loop
+same-length c = c .before .loop .inv .long
+
+returns : tie.Need-returns Inv-loop μ-loop
+returns c = zeroed-all (c .loop-test .left) (c .before .loop .inv)
+
+pub zero-cells-spec : {M : Type 1} → statement M
+zero-cells-spec =
+    tie.close
+    (tie.spec
+    Inv-loop
+    μ-loop
+    loop-holds
+    mul-cells
+    slice-write-cells
+    add-i
+    loop-less
+    loop-again
+    same-length
+    returns)
