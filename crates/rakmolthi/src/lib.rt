@@ -1,11 +1,17 @@
-// The C library: each call under its C name, thin over the crate that has it.
+// The C library: each call under its C name, as thin as can be, with the contract of the call that it passes on. include/rakmolthi.h is
+// its manual.
 ghost use mathlib.Core.Path.{_≡_};
+ghost use Rattle.bulk.specs.All.{allOf};
 ghost use Rattle.cells.specs.Bytes.{lookUpBytes};
+ghost use Rattle.records.specs.Record.{readAs, Writes};
+ghost use Rattle.refusals.specs.Memory.{memory};
+ghost use Rattle.rules.specs.Words.{routeBy};
+ghost use Rattle.updates.specs.Calls.{announce, withdraw, reHome, clear, Meets};
 use prefix::Prefix;
+use records::Reading;
+use records::Update;
+use updates::Report;
 
-// Look up on tables of bytes, four to a cell, the lowest first: code * 65,536 + hop.
-//     uint32_t rk_look_up(const uint8_t *first, size_t first_bytes, const uint8_t *long_table, size_t long_bytes,
-//                         uint32_t base, uint32_t base_length, uint32_t address);
 #[no_mangle]
 pub extern "C" fn rk_look_up(
     first: &[u8],
@@ -21,4 +27,119 @@ pub extern "C" fn rk_look_up(
         length: base_length,
     };
     cells::bytes::look_up_bytes(first, long_table, territory, address)
+}
+
+#[no_mangle]
+pub extern "C" fn rk_look_up_all(
+    first: &[u32],
+    long_table: &[u32],
+    base: u32,
+    base_length: u32,
+    addresses: &[u32],
+    answers: &mut [u32],
+) -> u32
+    ensures { λ r. ⌜ record { code = r; answers = now (answers .exit) } ≡ allOf (now (first .entry)) (now («long_table» .entry)) (record { address = base; length = «base_length» }) (now (addresses .entry)) (now (answers .entry)) ⌝ }
+{
+    let territory = Prefix {
+        address: base,
+        length: base_length,
+    };
+    bulk::look_up_all(first, long_table, territory, addresses, answers)
+}
+
+#[no_mangle]
+pub extern "C" fn rk_clear(
+    first: &mut [u32],
+    long_table: &mut [u32],
+    owners: &mut [u32],
+    rules: &mut [u64],
+    base: u32,
+    base_length: u32,
+) -> u32
+    ensures { λ r. ⌜ Meets (clear (record { address = base; length = «base_length» }) (memory (now (first .entry)) (now («long_table» .entry)) (now (owners .entry)) (now (rules .entry)))) (record { code = r; cells = 0 }) (now (first .exit)) (now («long_table» .exit)) (now (owners .exit)) (now (rules .exit)) ⌝ }
+{
+    let territory = Prefix {
+        address: base,
+        length: base_length,
+    };
+    updates::clear(first, long_table, owners, rules, territory)
+}
+
+#[no_mangle]
+pub extern "C" fn rk_announce(
+    first: &mut [u32],
+    long_table: &mut [u32],
+    owners: &mut [u32],
+    rules: &mut [u64],
+    base: u32,
+    base_length: u32,
+    address: u32,
+    length: u32,
+    hop: u32,
+) -> Report
+    ensures { λ r. ⌜ Meets (announce (record { address = base; length = «base_length» }) (routeBy (record { address = address; length = length }) hop) (memory (now (first .entry)) (now («long_table» .entry)) (now (owners .entry)) (now (rules .entry)))) r (now (first .exit)) (now («long_table» .exit)) (now (owners .exit)) (now (rules .exit)) ⌝ }
+{
+    let territory = Prefix {
+        address: base,
+        length: base_length,
+    };
+    let prefix = Prefix { address, length };
+    updates::announce(first, long_table, owners, rules, territory, prefix, hop)
+}
+
+#[no_mangle]
+pub extern "C" fn rk_withdraw(
+    first: &mut [u32],
+    long_table: &mut [u32],
+    owners: &mut [u32],
+    rules: &mut [u64],
+    base: u32,
+    base_length: u32,
+    address: u32,
+    length: u32,
+) -> Report
+    ensures { λ r. ⌜ Meets (withdraw (record { address = base; length = «base_length» }) (record { address = address; length = length }) (memory (now (first .entry)) (now («long_table» .entry)) (now (owners .entry)) (now (rules .entry)))) r (now (first .exit)) (now («long_table» .exit)) (now (owners .exit)) (now (rules .exit)) ⌝ }
+{
+    let territory = Prefix {
+        address: base,
+        length: base_length,
+    };
+    let prefix = Prefix { address, length };
+    updates::withdraw(first, long_table, owners, rules, territory, prefix)
+}
+
+#[no_mangle]
+pub extern "C" fn rk_re_home(
+    first: &mut [u32],
+    long_table: &mut [u32],
+    owners: &mut [u32],
+    rules: &mut [u64],
+    base: u32,
+    base_length: u32,
+    address: u32,
+    length: u32,
+    hop: u32,
+) -> Report
+    ensures { λ r. ⌜ Meets (reHome (record { address = base; length = «base_length» }) (routeBy (record { address = address; length = length }) hop) (memory (now (first .entry)) (now («long_table» .entry)) (now (owners .entry)) (now (rules .entry)))) r (now (first .exit)) (now («long_table» .exit)) (now (owners .exit)) (now (rules .exit)) ⌝ }
+{
+    let territory = Prefix {
+        address: base,
+        length: base_length,
+    };
+    let prefix = Prefix { address, length };
+    updates::re_home(first, long_table, owners, rules, territory, prefix, hop)
+}
+
+#[no_mangle]
+pub extern "C" fn rk_read_record(bytes: &[u8], expected: u32) -> Reading
+    ensures { λ r. ⌜ r ≡ readAs (now (bytes .entry)) expected ⌝ }
+{
+    records::read(bytes, expected)
+}
+
+#[no_mangle]
+pub extern "C" fn rk_write_record(room: &mut [u8], update: Update) -> u32
+    ensures { λ r. ⌜ Writes (now (room .entry)) update r (now (room .exit)) ⌝ }
+{
+    records::write(room, update)
 }

@@ -1,0 +1,34 @@
+-- `bulk::judge` meets its contract: the test picks what the cell says, or refusal 3. Assumes nothing.
+use mathlib.Core.Path.{sym, _∙_}
+use native.Mathlib.Omega.{arith}
+use Rattle.ground.proofs.Tests.{ltb?, cond-on, cond-off}
+use Rattle.bulk.specs.Passes.{blockFrom, judged}
+use borrow.Author.Needs.{needs}
+use Rattle.bulk.proofs.judge.Statement.{statement}
+use Rattle.bulk.proofs.judge.Tie as tie
+
+said-or-pointer-requires : tie.Need-said-or-pointer-requires
+said-or-pointer-requires c κs = search needs
+
+block-requires : tie.Need-block-requires
+block-requires c κs = search needs
+
+mul-result : tie.Need-mul-result
+mul-result c = search needs
+
+returns : tie.Need-returns
+unfolding judged
+returns c =
+    let s = c .before .before .before .args in
+    c .before .before .said-or-pointer .ensures
+    ∙ sym (cond-on _ _ (ltb? (blockFrom (s .base) (s .address)) (s .blocks)) (omega arith))
+
+returns-2 : tie.Need-returns-2
+unfolding judged
+returns-2 c =
+    let s = c .before .before .before .args in
+    sym (cond-off _ _ (ltb? (blockFrom (s .base) (s .address)) (s .blocks)) (λ l. omega arith))
+
+pub judge-spec : {M : Type 1} → statement M
+judge-spec =
+    tie.close (tie.spec said-or-pointer-requires block-requires mul-result returns returns-2)

@@ -1,0 +1,86 @@
+-- `bulk::look_up_all` meets its contract: where both tests pass, the four passes answer each address. Assumes nothing.
+use Prim.Native.Nat.{_-_}
+use native.Mathlib.Omega.{arith}
+use lib.ListN.{length}
+use lib.Pow.{pow-mono}
+use denote.Ref.{now}
+use Rattle.cells.proofs.Reading.{LentToRead}
+use Rattle.bulk.proofs.Answering.{lent, not-lent, refuses, answered, places-lent, passes-all}
+use borrow.Author.Needs.{needs}
+use Rattle.bulk.proofs.look_up_all.Statement.{statement}
+use Rattle.bulk.proofs.look_up_all.Tie as tie
+
+standing-requires : tie.Need-standing-requires
+standing-requires c κs = search needs
+
+returns : tie.Need-returns
+returns c =
+    let s = c .before .before .before .before .before .before .args in
+    refuses (now (s .first)) (now (s .long)) (s .territory) (now (s .addresses)) (now (s .answers))
+    (λ h. not-lent (length (now (s .first))) (length (now (s .long))) (s .territory) (λ z. omega arith) (h .0))
+
+returns-2 : tie.Need-returns-2
+returns-2 c =
+    let s = c .before .before .before .before .before .before .before .args in
+    refuses (now (s .first)) (now (s .long)) (s .territory) (now (s .addresses)) (now (s .answers)) (λ h. c .if2 .taken (omega (arith, h .1)))
+
+-- past the first test, what is lent is right
+may-read : (c : tie.Else1) → let s = c .before .before .before .before .before .before .args in
+    LentToRead (length (now (s .first))) (length (now (s .long))) (s .territory)
+may-read c =
+    let s = c .before .before .before .before .before .before .args in
+    lent (length (now (s .first))) (length (now (s .long))) (s .territory) (omega arith)
+
+cast-blocks : tie.Need-cast-blocks
+cast-blocks c =
+    let s = c .before .before .before .before .before .before .before .args in
+    omega (arith, may-read (c .before) .a-cell-a-block, pow-mono {i = 24 - s .territory .length} {j = 24} (omega arith))
+
+places-requires : tie.Need-places-requires
+places-requires c κs = search needs
+
+fetch-requires : tie.Need-fetch-requires
+fetch-requires c κs =
+    let s = c .before .before .before .before .before .before .before .before .before .before .before .before .args in
+    places-lent (now (s .first)) (now (s .long)) (s .territory) (now (s .addresses)) (now (s .answers))
+    (may-read (c .before .before .before .before .before .before)) (c .before .before .before .places .ensures)
+
+judge-all-requires : tie.Need-judge-all-requires
+judge-all-requires c κs = search needs
+
+settle-all-requires : tie.Need-settle-all-requires
+settle-all-requires c κs = search needs
+
+same-length : tie.Need-same-length
+same-length c = search needs
+
+returns-3 : tie.Need-returns-3
+returns-3 c =
+    let settling = c .before .before in
+    let judging = settling .before .before .before .before in
+    let fetching = judging .before .before .before .before in
+    let placing = fetching .before .before .before .before in
+    let passed = placing .before .before in
+    let known = passed .before .before .before .before in
+    let start = known .before .before .before in
+    let s = start .args in
+    let l = may-read (passed .before) in
+    answered (now (s .first)) (now (s .long)) (s .territory) (now (s .addresses)) (now (s .answers)) l (passed .if2 .left)
+    (passes-all (now (s .first)) (now (s .long)) (s .territory) (now (s .addresses)) (now (s .answers)) l
+    (omega (arith, start .good)) (λ i h. omega (arith, known .shared-slice-known3 .given i)) (passed .if2 .left)
+    (placing .places .ensures) (fetching .fetch .ensures) (judging .judge-all .ensures) (settling .settle-all .ensures))
+
+pub look-up-all-spec : {M : Type 1} → statement M
+look-up-all-spec =
+    tie.close
+    (tie.spec
+    standing-requires
+    returns
+    returns-2
+    cast-blocks
+    places-requires
+    fetch-requires
+    judge-all-requires
+    settle-all-requires
+    same-length
+    returns-3)

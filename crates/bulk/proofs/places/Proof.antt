@@ -1,0 +1,66 @@
+-- `bulk::places` meets its contract. The loop's invariant: the answers before i are places. Assumes nothing.
+use Prim.Native.Nat.{_-_}
+use native.Mathlib.Omega.{arith}
+use lib.ListN.{getD}
+use borrow.Author.Needs.{needs}
+use Rattle.bulk.specs.Passes.{placeOf}
+use Rattle.ground.proofs.Lists.{Passed, pass-none, pass-more, pass-all}
+use Rattle.bulk.proofs.places.Statement.{statement}
+use Rattle.bulk.proofs.places.Tie as tie
+
+abbrev Inv-loop : tie.InvT-loop
+Inv-loop base blocks addresses answers₀ count i₀ answers i = Passed (λ j x. placeOf base blocks (getD addresses j 0)) answers₀ i answers
+
+abbrev μ-loop : tie.MeasureT-loop
+μ-loop base blocks addresses answers₀ count i₀ answers i = count - i
+
+loop-holds : tie.Need-loop-holds Inv-loop μ-loop
+loop-holds c = pass-none
+
+mul-place : tie.Need-mul-place Inv-loop μ-loop
+mul-place c = search needs
+
+shared-slice-read-place : tie.Need-shared-slice-read-place Inv-loop μ-loop
+shared-slice-read-place c = search needs
+
+place-requires : tie.Need-place-requires Inv-loop μ-loop
+place-requires c κs = search needs
+
+mul-answers : tie.Need-mul-answers Inv-loop μ-loop
+mul-answers c = search needs
+
+slice-write-answers : tie.Need-slice-write-answers Inv-loop μ-loop
+slice-write-answers c = search needs
+
+add-i : tie.Need-add-i Inv-loop μ-loop
+add-i c = search needs
+
+loop-less : tie.Need-loop-less Inv-loop μ-loop
+loop-less c = search needs
+
+loop-again : tie.Need-loop-again Inv-loop μ-loop
+loop-again c = pass-more (c .before .before .before .loop .inv) (c .place .ensures)
+
+same-length : tie.Need-same-length Inv-loop μ-loop
+same-length c = search needs
+
+returns : tie.Need-returns Inv-loop μ-loop
+returns c = pass-all (c .before .loop .inv) (omega arith)
+
+pub places-spec : {M : Type 1} → statement M
+places-spec =
+    tie.close
+    (tie.spec
+    Inv-loop
+    μ-loop
+    loop-holds
+    mul-place
+    shared-slice-read-place
+    place-requires
+    mul-answers
+    slice-write-answers
+    add-i
+    loop-less
+    loop-again
+    same-length
+    returns)

@@ -1,0 +1,28 @@
+-- What each pass makes of one answer. The room for the answers holds in turn a place in the first table, the cell there, that cell's
+-- verdict or the cell itself where it is a pointer, and the answer. Assumes nothing.
+use Prim.Native.Nat.{ℕ, _+_, _-_, _/_, _%_, _^_}
+use mathlib.Core.Bool.{cond}
+use mathlib.Core.List.{List}
+use lib.Dec.{ltb}
+use Rattle.cells.specs.Cells.{isPointer}
+use Rattle.cells.specs.Lookup.{refused, verdictOf, saysOf, packed}
+
+-- the block of an address, counted from the base on and round the end of the addresses: below `blocks` exactly in the territory
+abbrev pub blockFrom : ℕ → ℕ → ℕ
+blockFrom base address = (address + 2 ^ 32 - base) % 2 ^ 32 / 256
+
+-- the block where the territory has it, else 0
+unfoldable pub placeOf : ℕ → ℕ → ℕ → ℕ
+placeOf base blocks address = cond (ltb (blockFrom base address) blocks) (blockFrom base address) 0
+
+-- what a cell of the first table says, and a pointer as it is
+unfoldable pub saidOrPointer : ℕ → ℕ
+saidOrPointer cell = cond (isPointer cell) cell (packed (verdictOf 24 cell))
+
+-- that in the territory, and refusal 3 outside it
+unfoldable pub judged : ℕ → ℕ → ℕ → ℕ → ℕ
+judged base blocks address cell = cond (ltb (blockFrom base address) blocks) (saidOrPointer cell) (packed (refused 3))
+
+-- what a pointer says; no number of an answer is one
+unfoldable pub settled : List ℕ → ℕ → ℕ → ℕ
+settled long address word = cond (isPointer word) (packed (saysOf long (address % 256) word)) word

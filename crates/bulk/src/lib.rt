@@ -1,0 +1,138 @@
+// Look up of many addresses in one call. What is lent is tested once, and each pass over the answers does one small thing, so that
+// many reads of the first table are under way at once and only a pointer is jumped to.
+ghost use mathlib.Core.Path.{_≡_};
+ghost use Prim.Native.Nat.{ℕ, _<_};
+ghost use lib.ListN.{length, getD};
+ghost use Rattle.ground.specs.Lists.{mapAt};
+ghost use Rattle.bulk.specs.All.{allOf};
+ghost use Rattle.bulk.specs.Passes.{blockFrom, placeOf, saidOrPointer, judged, settled};
+use cells::cell::Cell;
+use cells::look::says;
+use cells::look::standing;
+use cells::look::verdict;
+use prefix::Prefix;
+
+// The block of an address, counted from the base on. An address before the base comes out past every block of the territory, so one
+// test tells whether it is inside.
+fn block(base: u32, address: u32) -> u32
+    ensures { λ r. ⌜ r ≡ blockFrom base address ⌝ }
+{
+    std::num::wrapping_sub_u32(address, base) / 256
+}
+
+// Where the first table is read for an address: outside the territory at block 0, which is always there.
+fn place(base: u32, blocks: u32, address: u32) -> u32
+    ensures { λ r. ⌜ r ≡ placeOf base blocks address ⌝ }
+{
+    let block = block(base, address);
+    if block < blocks { block } else { 0 }
+}
+
+// What a first cell says, and a pointer as it is.
+fn said_or_pointer(cell: u32) -> u32
+    ensures { λ r. ⌜ r ≡ saidOrPointer cell ⌝ }
+{
+    let number = verdict(cell, 24);
+    if cell < Cell::POINTER { number } else { cell }
+}
+
+// That in the territory, and refusal 3 outside it.
+fn judge(base: u32, blocks: u32, address: u32, cell: u32) -> u32
+    ensures { λ r. ⌜ r ≡ judged base blocks address cell ⌝ }
+{
+    let number = said_or_pointer(cell);
+    if block(base, address) < blocks {
+        number
+    } else {
+        3 * 65536
+    }
+}
+
+// What a pointer says for an address. The numbers of answers are no pointers, and stay.
+fn settle(long: &[u32], address: u32, word: u32) -> u32
+    ensures { λ r. ⌜ r ≡ settled (now (long .entry)) address word ⌝ }
+{
+    if word < Cell::POINTER {
+        return word;
+    }
+    says(long, (address % 256) as usize, word)
+}
+
+// The first pass: where the first table is read.
+fn places(base: u32, blocks: u32, addresses: &[u32], answers: &mut [u32])
+    requires { ⌜ length (now answers) ≡ length (now addresses) ⌝ }
+    ensures { λ _. ⌜ now (answers .exit) ≡ mapAt (λ i x. placeOf base blocks (getD (now (addresses .entry)) i 0)) (now (answers .entry)) ⌝ }
+{
+    let count = answers.len();
+    let mut i = 0;
+    while i < count {
+        answers[i] = place(base, blocks, addresses[i]);
+        i += 1;
+    }
+}
+
+// The second pass: what stands there. It does nothing else, so that as many reads as can be are under way at once.
+fn fetch(first: &[u32], answers: &mut [u32])
+    requires { ⌜ ((i : ℕ) → i < length (now answers) → getD (now answers) i 0 < length (now first)) ⌝ }
+    ensures { λ _. ⌜ now (answers .exit) ≡ mapAt (λ i x. getD (now (first .entry)) x 0) (now (answers .entry)) ⌝ }
+{
+    let count = answers.len();
+    let mut i = 0;
+    while i < count {
+        answers[i] = first[answers[i] as usize];
+        i += 1;
+    }
+}
+
+// The third pass: what it says. It has no jump, so that a machine can judge several cells at once.
+fn judge_all(base: u32, blocks: u32, addresses: &[u32], answers: &mut [u32])
+    requires { ⌜ length (now answers) ≡ length (now addresses) ⌝ }
+    ensures { λ _. ⌜ now (answers .exit) ≡ mapAt (λ i x. judged base blocks (getD (now (addresses .entry)) i 0) x) (now (answers .entry)) ⌝ }
+{
+    let count = answers.len();
+    let mut i = 0;
+    while i < count {
+        answers[i] = judge(base, blocks, addresses[i], answers[i]);
+        i += 1;
+    }
+}
+
+// The fourth pass: what each pointer says.
+fn settle_all(long: &[u32], addresses: &[u32], answers: &mut [u32])
+    requires { ⌜ length (now answers) ≡ length (now addresses) ⌝ }
+    ensures { λ _. ⌜ now (answers .exit) ≡ mapAt (λ i x. settled (now (long .entry)) (getD (now (addresses .entry)) i 0) x) (now (answers .entry)) ⌝ }
+{
+    let count = answers.len();
+    let mut done = 0;
+    while done < count {
+        answers[done] = settle(long, addresses[done], answers[done]);
+        done += 1;
+    }
+}
+
+// The answers to many addresses, each as the one number code * 65,536 + hop: 0, or 1 where look up would answer 1 to every address or
+// where the addresses and the answers differ in number; then nothing is written.
+pub fn look_up_all(
+    first: &[u32],
+    long: &[u32],
+    territory: Prefix,
+    addresses: &[u32],
+    answers: &mut [u32],
+) -> u32
+    ensures { λ r. ⌜ record { code = r; answers = now (answers .exit) } ≡ allOf (now (first .entry)) (now (long .entry)) territory (now (addresses .entry)) (now (answers .entry)) ⌝ }
+{
+    let base = territory.address;
+    // The territory's own address is in it: what can fail is what is lent.
+    if standing(first.len(), long.len(), territory, base) != 0 {
+        return 1;
+    }
+    if addresses.len() != answers.len() {
+        return 1;
+    }
+    let blocks = first.len() as u32;
+    places(base, blocks, addresses, answers);
+    fetch(first, answers);
+    judge_all(base, blocks, addresses, answers);
+    settle_all(long, addresses, answers);
+    0
+}
