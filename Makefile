@@ -1,9 +1,61 @@
-# make run: the main job on the example that the repository ships. make test: every check there is; .ci/run calls it.
-.PHONY: run test
+# make run: the small program on the paper's records.     make test: every check there is; .ci/run calls it.
+# make install PREFIX=/usr/local                           make soak SECONDS=600 SEED=7: the independent check, for longer
+# make bench: beside DPDK and plain C; no part of the gate
+.PHONY: run test library c-check example install soak bench clean
+
+PREFIX ?= /usr/local
+SECONDS ?= 600
+SEED ?= 1
+
+LIBRARY = target/staticlib/librakmolthi.a
+CFLAGS = -std=c99 -O1 -Wall -Wextra -pedantic -Iinclude
 
 run:
-	@echo 'The small program is not built yet: it comes with the crate collector (docs/DECISIONS.md).'
+	@rt check collector >target-run.log 2>&1 || { tail -20 target-run.log; rm -f target-run.log; exit 1; }
+	@rm -f target-run.log
+	@tools/x86-run target/bin/collector <crates/collector/stdin
 
+# The order matters: rt ci removes target/, and its own last line is to be the last one.
 test:
 	@rt fmt --check
+	@python3 check/test_model.py
+	@$(MAKE) --no-print-directory c-check
+	@$(MAKE) --no-print-directory example
 	@rt ci
+
+library: $(LIBRARY)
+
+$(LIBRARY): crates.txt $(shell find crates -name '*.rt')
+	@rt staticlib rakmolthi >/dev/null
+
+# The header alone, as C99 and as C++; then the library against the independent model, for about a minute.
+c-check: library
+	@tools/x86-cc $(CFLAGS) -x c -fsyntax-only include/rakmolthi.h
+	@g++ -Wall -Wextra -pedantic -x c++ -fsyntax-only include/rakmolthi.h
+	@mkdir -p target/c
+	@tools/x86-cc $(CFLAGS) -static -o target/c/driver check/driver.c $(LIBRARY)
+	@python3 check/check.py --seed 1 tools/x86-run target/c/driver
+
+# The C example on the paper's records, and what it is to say.
+example: library
+	@mkdir -p target/c
+	@tools/x86-cc $(CFLAGS) -static -o target/c/site examples/site.c $(LIBRARY)
+	@tools/x86-run target/c/site 10.16.0.1 10.16.3.200 192.0.2.1 <crates/collector/stdin >target/c/site.out
+	@cmp target/c/site.out examples/site.out && echo 'example: as it is to be'
+
+install: library
+	install -d $(DESTDIR)$(PREFIX)/include $(DESTDIR)$(PREFIX)/lib/pkgconfig
+	install -m 644 include/rakmolthi.h $(DESTDIR)$(PREFIX)/include/
+	install -m 644 $(LIBRARY) $(DESTDIR)$(PREFIX)/lib/
+	sed 's|@PREFIX@|$(PREFIX)|' include/rakmolthi.pc.in >$(DESTDIR)$(PREFIX)/lib/pkgconfig/rakmolthi.pc
+
+soak: library
+	@mkdir -p target/c
+	@tools/x86-cc $(CFLAGS) -static -o target/c/driver check/driver.c $(LIBRARY)
+	@python3 check/check.py --seconds $(SECONDS) --seed $(SEED) tools/x86-run target/c/driver
+
+bench:
+	@bench/run
+
+clean:
+	rm -rf target

@@ -1,0 +1,274 @@
+/* The driver of the check: it holds the lent memory of Rakmolthi, with guard bytes before and after every lent slice, takes
+   commands on standard input, makes the calls and answers on standard output. check.py starts it and talks to it.
+
+   All numbers on the wire are little-endian. A command is one letter and its numbers:
+
+     M  which:1 shift:1 bytes:8 contents     lend slice `which` (0 first, 1 long, 2 owners, 3 rules) with these contents,
+                                             its start moved by `shift` bytes off a multiple of 16; no answer
+     C  base:4 length:4 dump:1                                       clear
+     A  base:4 length:4 address:4 length:4 hop:4 dump:1              announce
+     W  base:4 length:4 address:4 length:4 dump:1                    withdraw
+     H  base:4 length:4 address:4 length:4 hop:4 dump:1              re-home
+     L  base:4 length:4 count:4 addresses                            look up, one call for each address
+     V  base:4 length:4 count:4 room:4 addresses                     look up all, one call
+     R  expected:4 bytes:4 contents                                  read a record
+     P  kind:1 serial:4 address:4 length:1 hop:2 bytes:4 contents    write a record into a room with these contents
+     Q                                                               end
+
+   and the answers are
+
+     C A W H   code:4 cells:4 guards:1 differing:4 x 4, and with dump the contents of the four slices
+     L         guards:1 changed:1 answers:4 x count
+     V         guards:1 changed:1 returned:4 answers:4 x room
+     R         guards:1 changed:1 code:4 kind:1 serial:4 address:4 length:1 hop:2
+     P         guards:1 code:4 contents
+
+   `guards` is not 0 if a byte before or after some slice was written, `changed` if a byte was that a call only reads,
+   `differing` is the number of elements of each slice that differ from before the call. */
+
+#include "rakmolthi.h"
+
+#include <stdio.h>
+#include <stdlib.h>
+#include <string.h>
+
+enum { GUARD = 256, SLICES = 4 };
+
+typedef struct {
+    uint8_t *room;      /* what malloc gave */
+    uint8_t *start;     /* where the slice starts */
+    uint8_t *copy;      /* the contents before the call */
+    size_t bytes;
+} slice;
+
+static const size_t width[SLICES] = { 4, 4, 4, 8 };
+static slice lent[SLICES];
+
+/* ------------------------------------------------------------------------------------------------- the wire */
+
+static void take(void *to, size_t bytes)
+{
+    if (bytes && fread(to, 1, bytes, stdin) != bytes) {
+        fprintf(stderr, "driver: the input stopped inside a command\n");
+        exit(2);
+    }
+}
+
+static uint8_t take8(void) { uint8_t b; take(&b, 1); return b; }
+static uint16_t take16(void) { uint8_t b[2]; take(b, 2); return (uint16_t)(b[0] | b[1] << 8); }
+static uint32_t take32(void)
+{
+    uint8_t b[4];
+    take(b, 4);
+    return b[0] | (uint32_t)b[1] << 8 | (uint32_t)b[2] << 16 | (uint32_t)b[3] << 24;
+}
+static uint64_t take64(void) { uint64_t low = take32(); return low | (uint64_t)take32() << 32; }
+
+static void give(const void *from, size_t bytes) { if (bytes) fwrite(from, 1, bytes, stdout); }
+static void give8(uint32_t v) { uint8_t b = (uint8_t)v; give(&b, 1); }
+static void give16(uint32_t v) { give8(v); give8(v >> 8); }
+static void give32(uint32_t v) { give16(v); give16(v >> 16); }
+
+/* ------------------------------------------------------------------------------------------------- slices with guards */
+
+static uint8_t guard_byte(size_t i) { return (uint8_t)(0xA5 ^ (i * 37)); }
+
+static void *memory(size_t bytes)
+{
+    void *p = malloc(bytes ? bytes : 1);
+    if (!p) { fprintf(stderr, "driver: no memory\n"); exit(2); }
+    return p;
+}
+
+static void set_up(slice *s, size_t bytes, size_t shift)
+{
+    size_t i;
+    free(s->room);
+    free(s->copy);
+    s->room = memory(GUARD + 16 + shift + bytes + GUARD);
+    s->start = s->room + GUARD;
+    s->start += (16 - (uintptr_t)s->start % 16) % 16 + shift;
+    s->copy = memory(bytes);
+    s->bytes = bytes;
+    for (i = 0; i < GUARD; i++) {
+        s->start[(ptrdiff_t)i - GUARD] = guard_byte(i);
+        s->start[bytes + i] = guard_byte(i + 7);
+    }
+}
+
+static void before_call(slice *s) { if (s->bytes) memcpy(s->copy, s->start, s->bytes); }
+
+static int guards_broken(const slice *s)
+{
+    size_t i;
+    for (i = 0; i < GUARD; i++)
+        if (s->start[(ptrdiff_t)i - GUARD] != guard_byte(i) || s->start[s->bytes + i] != guard_byte(i + 7)) return 1;
+    return 0;
+}
+
+static int changed(const slice *s) { return s->bytes != 0 && memcmp(s->copy, s->start, s->bytes) != 0; }
+
+static uint32_t differing(const slice *s, size_t each)
+{
+    uint32_t count = 0;
+    size_t i;
+    for (i = 0; i + each <= s->bytes; i += each)
+        if (memcmp(s->copy + i, s->start + i, each) != 0) count++;
+    return count;
+}
+
+static void lent_before(void) { int k; for (k = 0; k < SLICES; k++) before_call(&lent[k]); }
+
+static uint32_t lent_guards(void)
+{
+    uint32_t broken = 0;
+    int k;
+    for (k = 0; k < SLICES; k++) if (guards_broken(&lent[k])) broken |= 1u << k;
+    return broken;
+}
+
+static uint32_t lent_changed(void)
+{
+    uint32_t mask = 0;
+    int k;
+    for (k = 0; k < SLICES; k++) if (changed(&lent[k])) mask |= 1u << k;
+    return mask;
+}
+
+static void answer_update(rk_report report, int dump)
+{
+    int k;
+    give32(report.code);
+    give32(report.cells);
+    give8(lent_guards());
+    for (k = 0; k < SLICES; k++) give32(differing(&lent[k], width[k]));
+    if (dump) for (k = 0; k < SLICES; k++) give(lent[k].start, lent[k].bytes);
+}
+
+/* ------------------------------------------------------------------------------------------------- the calls */
+
+#define FIRST  ((uint32_t *)(void *)lent[0].start), lent[0].bytes / 4
+#define LONG   ((uint32_t *)(void *)lent[1].start), lent[1].bytes / 4
+#define OWNERS ((uint32_t *)(void *)lent[2].start), lent[2].bytes / 4
+#define RULES  ((uint64_t *)(void *)lent[3].start), lent[3].bytes / 8
+
+static void lend(void)
+{
+    uint8_t which = take8(), shift = take8();
+    uint64_t bytes = take64();
+    if (which >= SLICES) { fprintf(stderr, "driver: no slice %u\n", which); exit(2); }
+    set_up(&lent[which], (size_t)bytes, shift);
+    take(lent[which].start, (size_t)bytes);
+}
+
+static void update(char call)
+{
+    uint32_t base = take32(), base_length = take32();
+    uint32_t address = 0, length = 0, hop = 0;
+    rk_report report = { 0, 0 };
+    int dump;
+    if (call != 'C') { address = take32(); length = take32(); }
+    if (call == 'A' || call == 'H') hop = take32();
+    dump = take8();
+    lent_before();
+    switch (call) {
+    case 'C': report.code = rk_clear(FIRST, LONG, OWNERS, RULES, base, base_length); break;
+    case 'A': report = rk_announce(FIRST, LONG, OWNERS, RULES, base, base_length, address, length, hop); break;
+    case 'W': report = rk_withdraw(FIRST, LONG, OWNERS, RULES, base, base_length, address, length); break;
+    case 'H': report = rk_re_home(FIRST, LONG, OWNERS, RULES, base, base_length, address, length, hop); break;
+    }
+    answer_update(report, dump);
+}
+
+static void look_up(void)
+{
+    uint32_t base = take32(), base_length = take32(), count = take32(), i;
+    uint32_t *numbers = memory(4 * (size_t)count);
+    for (i = 0; i < count; i++) numbers[i] = take32();
+    lent_before();
+    for (i = 0; i < count; i++)
+        numbers[i] = rk_look_up(lent[0].start, lent[0].bytes, lent[1].start, lent[1].bytes, base, base_length, numbers[i]);
+    give8(lent_guards());
+    give8(lent_changed());
+    for (i = 0; i < count; i++) give32(numbers[i]);
+    free(numbers);
+}
+
+static void look_up_all(void)
+{
+    static slice addresses, answers;
+    uint32_t base = take32(), base_length = take32(), count = take32(), room = take32(), returned, number;
+    size_t i;
+    set_up(&addresses, 4 * (size_t)count, 0);
+    set_up(&answers, 4 * (size_t)room, 0);
+    for (i = 0; i < count; i++) { number = take32(); memcpy(addresses.start + 4 * i, &number, 4); }
+    memset(answers.start, 0xEE, answers.bytes);
+    lent_before();
+    before_call(&addresses);
+    returned = rk_look_up_all(FIRST, LONG, base, base_length, (uint32_t *)(void *)addresses.start, count,
+                              (uint32_t *)(void *)answers.start, room);
+    give8(lent_guards() | (uint32_t)guards_broken(&addresses) << 4 | (uint32_t)guards_broken(&answers) << 5);
+    give8(lent_changed() | (uint32_t)changed(&addresses) << 4);
+    give32(returned);
+    for (i = 0; i < room; i++) { memcpy(&number, answers.start + 4 * i, 4); give32(number); }
+}
+
+static void read_record(void)
+{
+    static slice record;
+    uint32_t expected = take32(), bytes = take32();
+    rk_reading reading;
+    set_up(&record, bytes, 0);
+    take(record.start, bytes);
+    before_call(&record);
+    lent_before();
+    reading = rk_read_record(record.start, bytes, expected);
+    give8(lent_guards() | (uint32_t)guards_broken(&record) << 4);
+    give8(lent_changed() | (uint32_t)changed(&record) << 4);
+    give32(reading.code);
+    give8(reading.update.kind);
+    give32(reading.update.serial);
+    give32(reading.update.address);
+    give8(reading.update.length);
+    give16(reading.update.hop);
+}
+
+static void write_record(void)
+{
+    static slice room;
+    uint32_t bytes, code;
+    rk_update update;
+    memset(&update, 0xFF, sizeof update);      /* the gaps between the fields carry no news */
+    update.kind = take8();
+    update.serial = take32();
+    update.address = take32();
+    update.length = take8();
+    update.hop = take16();
+    bytes = take32();
+    set_up(&room, bytes, 0);
+    take(room.start, bytes);
+    lent_before();
+    code = rk_write_record(room.start, bytes, update);
+    give8(lent_guards() | (uint32_t)guards_broken(&room) << 4 | (uint32_t)(lent_changed() != 0) << 5);
+    give32(code);
+    give(room.start, bytes);
+}
+
+int main(void)
+{
+    int k, command;
+    for (k = 0; k < SLICES; k++) set_up(&lent[k], 0, 0);
+    while ((command = getchar()) != EOF && command != 'Q') {
+        switch (command) {
+        case 'M': lend(); continue;
+        case 'C': case 'A': case 'W': case 'H': update((char)command); break;
+        case 'L': look_up(); break;
+        case 'V': look_up_all(); break;
+        case 'R': read_record(); break;
+        case 'P': write_record(); break;
+        default: fprintf(stderr, "driver: no command %d\n", command); return 2;
+        }
+        fflush(stdout);
+    }
+    return 0;
+}

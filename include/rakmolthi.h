@@ -1,0 +1,119 @@
+/*
+ * Rakmolthi: a list of live IPv4 prefixes and two lookup tables of the DIR-24-8 kind, with every call proved.
+ *
+ * Memory. The library has none of its own: no heap, no state, no locks. The caller lends it on every call:
+ *
+ *   first        2^(24 - base_length) cells of 32 bits, one for each /24 block of the territory
+ *   long_table   256 * S cells of 32 bits, S from 0 to 32,768: segment k is cells 256k to 256k + 255
+ *   owners       S words of 32 bits, one for each segment
+ *   rules        R words of 64 bits, R from 0 to 65,536, one for each live prefix
+ *
+ * Each pointer is followed by how many elements are lent there. What is lent stays the caller's, and a call touches nothing else. A
+ * pointer is aligned as its type asks and not null (also where 0 elements are lent), and the lent arrays of one call do not overlap.
+ * What the words hold, and that a caller may read them, is said in the scope paper; a program that only makes these calls need not know.
+ *
+ * The territory is the prefix base / base_length: base_length 0 to 24, and no bit of base set after it. All lent memory belongs to one
+ * territory from rk_clear on.
+ *
+ * Answers. 0 is success. Any other number is a refusal, and a refused call writes nothing and answers hop 0, cells 0, an all-zero update:
+ *
+ *    1  base_length above 24, base has bits after it, or a lent size is not as above           every call on tables
+ *    2  length above 32, address bits set after the length, or a hop outside 1 to 32,767       updates (the hop: announce, re-home)
+ *    3  address not in the territory; prefix shorter than the territory or not inside it       look up, updates
+ *    4  damage: the lent words contradict themselves where the call looks                      look up, updates
+ *    5  prefix not live                                                                        withdraw, re-home
+ *    6  prefix not live and no rule word is free                                               announce
+ *    7  a prefix longer than 24 needs a segment and none is free                               announce
+ *    8  no route                                                                               look up
+ *   20  fewer than 2 bytes, or the length field is right and there are fewer than 15           read
+ *   21  the length field is not 13                                                             read
+ *   22  the version is not 1                                                                   read
+ *   23  the kind is not 1, 2 or 3                                                              read, write
+ *   24  the serial is not the expected one                                                     read
+ *   25  a withdraw with a hop                                                                  read, write
+ *   26  fewer than 15 bytes of room                                                            write
+ *
+ * Where several hold, the first in the order of the tests is answered: 1, 2, 3, 4, 5, 6, 7, 8; 20, 21, 22, 23, 24, 25, with the 15 bytes
+ * of 20 tested after 21; 26, 23, 25.
+ *
+ * At the same time. A call that only reads (rk_look_up, rk_look_up_all, rk_read_record) may run beside others that only read the same
+ * memory. A call that writes must have the memory that it writes to itself.
+ */
+#ifndef RAKMOLTHI_H
+#define RAKMOLTHI_H
+
+#include <stddef.h>
+#include <stdint.h>
+
+#ifdef __cplusplus
+extern "C" {
+#endif
+
+/* What an update answers: 0 and how many cells of the two tables it changed, or a refusal and 0. That number is the update's price. */
+typedef struct {
+    uint32_t code;
+    uint32_t cells;
+} rk_report;
+
+/* An update, as a record carries it. */
+typedef struct {
+    uint8_t kind; /* 1 announce, 2 withdraw, 3 re-home */
+    uint32_t serial;
+    uint32_t address;
+    uint8_t length;
+    uint16_t hop; /* 0 with a withdraw */
+} rk_update;
+
+/* What reading a record answers. */
+typedef struct {
+    uint32_t code;
+    rk_update update;
+} rk_reading;
+
+/* Sets all lent memory to 0: no prefix is live. Answers 0 or 1. */
+uint32_t rk_clear(uint32_t *first, size_t first_cells, uint32_t *long_table, size_t long_cells, uint32_t *owners, size_t owner_words,
+                  uint64_t *rules, size_t rule_words, uint32_t base, uint32_t base_length);
+
+/* Makes address/length live with a hop; if it is live already, its hop is replaced. Refusals 1, 2, 3, 4, 6, 7. */
+rk_report rk_announce(uint32_t *first, size_t first_cells, uint32_t *long_table, size_t long_cells, uint32_t *owners, size_t owner_words,
+                      uint64_t *rules, size_t rule_words, uint32_t base, uint32_t base_length, uint32_t address, uint32_t length,
+                      uint32_t hop);
+
+/* Removes a live prefix: the routes that it covered come back. Refusals 1, 2, 3, 4, 5. */
+rk_report rk_withdraw(uint32_t *first, size_t first_cells, uint32_t *long_table, size_t long_cells, uint32_t *owners, size_t owner_words,
+                      uint64_t *rules, size_t rule_words, uint32_t base, uint32_t base_length, uint32_t address, uint32_t length);
+
+/* Changes the hop of a live prefix. Refusals 1, 2, 3, 4, 5. */
+rk_report rk_re_home(uint32_t *first, size_t first_cells, uint32_t *long_table, size_t long_cells, uint32_t *owners, size_t owner_words,
+                     uint64_t *rules, size_t rule_words, uint32_t base, uint32_t base_length, uint32_t address, uint32_t length,
+                     uint32_t hop);
+
+/*
+ * The hop of the longest live prefix that contains the address, as the one number code * 65,536 + hop. The tables are passed as bytes,
+ * four to a cell, the lowest first, which is how rk_announce and the others leave them on a little-endian machine; 1 also where a length
+ * is no multiple of 4. It reads one or two cells. Refusals 1, 3, 4, 8.
+ */
+uint32_t rk_look_up(const uint8_t *first, size_t first_bytes, const uint8_t *long_table, size_t long_bytes, uint32_t base,
+                    uint32_t base_length, uint32_t address);
+
+/*
+ * Looks many addresses up. Answers 1, and writes nothing, where rk_look_up would answer 1 or the two counts differ; else 0, and answers[i]
+ * is rk_look_up's number for addresses[i]. For a buffer full of addresses it is some three times as fast as one call for each.
+ */
+uint32_t rk_look_up_all(const uint32_t *first, size_t first_cells, const uint32_t *long_table, size_t long_cells, uint32_t base,
+                        uint32_t base_length, const uint32_t *addresses, size_t address_count, uint32_t *answers, size_t answer_count);
+
+/*
+ * Reads the update record in the first 15 bytes, under the serial that is expected; bytes after them are not looked at. After an accepted
+ * record a stream expects the next serial, and 0 after 4294967295: in C, expected + 1 of a uint32_t. Refusals 20 to 25.
+ */
+rk_reading rk_read_record(const uint8_t *bytes, size_t count, uint32_t expected);
+
+/* Writes the record of an update into the first 15 bytes of the room, and no other. Refusals 26, 23, 25. */
+uint32_t rk_write_record(uint8_t *room, size_t count, rk_update update);
+
+#ifdef __cplusplus
+}
+#endif
+
+#endif
