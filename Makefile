@@ -11,8 +11,8 @@ LIBRARY = target/staticlib/librakmolthi.a
 CFLAGS = -std=c99 -O1 -Wall -Wextra -pedantic -Iinclude
 
 run:
-	@rt check collector >target-run.log 2>&1 || { tail -20 target-run.log; rm -f target-run.log; exit 1; }
-	@rm -f target-run.log
+	@mkdir -p target
+	@rt check collector >target/run.log 2>&1 || { tail -20 target/run.log; exit 1; }
 	@tools/x86-run target/bin/collector <crates/collector/stdin
 
 # The order matters: rt ci removes target/, and its own last line is to be the last one.
@@ -36,9 +36,10 @@ c-check: library
 	@tools/x86-cc $(CFLAGS) -static -o target/c/driver check/driver.c $(LIBRARY)
 	@python3 check/check.py --seed 1 tools/x86-run target/c/driver
 
-# The C example on the paper's records, and what it is to say.
+# The paper's records, made again from their text; the C example on them, and what it is to say.
 example: library
 	@mkdir -p target/c
+	@examples/make-records <examples/records.txt | cmp - crates/collector/stdin
 	@tools/x86-cc $(CFLAGS) -static -o target/c/site examples/site.c $(LIBRARY)
 	@tools/x86-run target/c/site 10.16.0.1 10.16.3.200 192.0.2.1 <crates/collector/stdin >target/c/site.out
 	@cmp target/c/site.out examples/site.out && echo 'example: as it is to be'

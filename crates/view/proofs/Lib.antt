@@ -1,0 +1,2 @@
+-- That the contracts of the view leave one answer.
+mod OneOutcome
