@@ -1,19 +1,19 @@
 -- Announce and re-home keep the tables: what they leave is the tables of the list with the route put in. Assumes nothing.
 use mathlib.Core.Path.{_≡_, refl, sym, ap, subst, _∙_}
-use mathlib.Core.Bool.{Bool, true, false, cond, not, _&&_, _||_, or-true, true≢false, false≢true}
-use mathlib.Core.List.{List, [], _∷_}
-use Prim.Native.Nat.{ℕ, suc, _+_, _*_, _%_, _≤_, _<_}
+use mathlib.Core.Bool.{Bool, true, false, cond, _||_, or-true, false≢true}
+use mathlib.Core.List.{List}
+use Prim.Native.Nat.{ℕ, _+_, _%_, _≤_, _<_}
 use native.Mathlib.Omega.{arith}
-use lib.Dec.{eqb, lit≤}
+use lib.Dec.{lit≤}
 use lib.ListN.{length, getD}
 use lib.Seq.{getD-set-other}
-use Rattle.ground.proofs.Tests.{Decides, holds, fails, leb?, ltb?, eqb?, and?, not?, iff?, passes, stops, by-test}
+use Rattle.ground.proofs.Tests.{Decides, holds, fails, passes, stops}
 use Rattle.ground.proofs.Cases.{by-lt, by-eq}
 use Rattle.prefix.specs.declared.Prefix.{Prefix}
 use Rattle.prefix.specs.Prefixes.{contains, Encloses, Territory}
 use Rattle.prefix.specs.Price.{opens, isOpen, blocks, blockStart}
 use Rattle.prefix.specs.Routes.{Route, best, with-route, IsRoute, AllRoutes}
-use Rattle.prefix.proofs.Changes.{best-with, with-routes}
+use Rattle.prefix.proofs.Changes.{best-with}
 use Rattle.prefix.proofs.Blocks.{opens?, opened-with, closed, block-top}
 use Rattle.cells.specs.Cells.{pack, pointerBit, pointTo, cellOf}
 use Rattle.cells.specs.Lookup.{blockOf}

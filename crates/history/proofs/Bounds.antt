@@ -1,25 +1,20 @@
 -- What a change inside one prefix costs at most: the blocks that the prefix does not touch cost nothing. Assumes nothing.
-use mathlib.Core.Path.{_≡_, refl, sym, ap, subst, _∙_}
-use mathlib.Core.Logic.{_⊎_, inl, inr, ⊎-elim}
+use mathlib.Core.Path.{_≡_, sym, ap, subst}
+use mathlib.Core.Logic.{_⊎_, ⊎-elim}
 use mathlib.Core.Bool.{Bool, true, false, cond}
 use mathlib.Core.List.{List}
-use Prim.Native.Nat.{ℕ, _+_, _-_, _*_, _/_, _%_, _^_, _≤_, _<_}
-use native.Mathlib.Nat.{add-zero}
+use Prim.Native.Nat.{ℕ, _+_, _-_, _*_, _^_, _≤_, _<_}
 use native.Mathlib.Omega.{arith}
-use lib.Dec.{lit≤}
-use lib.Pow.{pow-pos, pow-mono}
+use lib.Pow.{pow-pos}
 use Rattle.ground.specs.Sums.{sum}
-use Rattle.ground.proofs.Tests.{by-test, cond-on, cond-off}
-use Rattle.ground.proofs.Cases.{by-lt}
+use Rattle.ground.proofs.Tests.{by-test}
 use Rattle.ground.proofs.Sums.{sum-le, sum-window, sum-const}
 use Rattle.prefix.specs.declared.Prefix.{Prefix}
-use Rattle.prefix.specs.Prefixes.{span, top, WellFormed, Contains, Encloses, Territory}
-use Rattle.prefix.specs.Price.{isOpen, same, differ, blockPrice, blocks, blockStart, price}
+use Rattle.prefix.specs.Prefixes.{WellFormed, Contains, Encloses, Territory}
+use Rattle.prefix.specs.Price.{isOpen, differ, blockPrice, blocks, blockStart, price}
 use Rattle.prefix.specs.Routes.{Route, Match, no-route, best}
-use Rattle.prefix.proofs.Prefixes.{top-le, nested, own, in-range, by-range}
 use Rattle.prefix.proofs.Blocks.{Opens, same?, differ-same, differ-other, block-none}
 use Rattle.cells.specs.Lookup.{blockOf}
-use Rattle.cells.proofs.Reading.{span-blocks, block-inside}
 use Rattle.cells.proofs.Spans.{touches, blocks-inside, opens-only}
 
 -- ---- what a block costs at most

@@ -1,8 +1,8 @@
 -- The cells that differ between the tables of two live lists are as many as the price says, where a block that is open both times keeps its
 -- segment, and blocks only open or only close. Assumes nothing.
 use mathlib.Core.Path.{_≡_, refl, sym, ap, ap₂, subst, _∙_}
-use mathlib.Core.Logic.{_⊎_, inl, inr, ⊎-elim}
-use mathlib.Core.Bool.{Bool, true, false, cond, true≢false, false≢true}
+use mathlib.Core.Logic.{_⊎_, inl, inr}
+use mathlib.Core.Bool.{Bool, true, false, cond, false≢true}
 use mathlib.Core.List.{List}
 use Prim.Native.Nat.{ℕ, zero, suc, _+_, _*_, _≤_, _<_}
 use native.Mathlib.Nat.{mul-comm}
@@ -12,17 +12,17 @@ use lib.Dec.{eqb}
 use lib.ListN.{length, getD}
 use Rattle.ground.specs.Sums.{sum}
 use Rattle.ground.specs.Lists.{differs, differing}
-use Rattle.ground.proofs.Tests.{Decides, holds, fails, eqb?, by-test, cond-on, cond-off}
+use Rattle.ground.proofs.Tests.{eqb?, by-test, cond-on, cond-off}
 use Rattle.ground.proofs.Lists.{differs-same, differs-other, differing-sum}
 use Rattle.ground.proofs.Sums.{sum-cong, sum-none, sum-groups}
 use Rattle.prefix.specs.declared.Prefix.{Prefix}
 use Rattle.prefix.specs.Price.{isOpen, differ, blocks, blockStart, price}
-use Rattle.prefix.specs.Routes.{Route, Match, no-route, best, AllRoutes}
+use Rattle.prefix.specs.Routes.{Route, no-route, best, AllRoutes}
 use Rattle.prefix.proofs.Blocks.{entryDiffers, cell, price-cells, differ-same}
-use Rattle.cells.specs.Cells.{pointerBit, pointTo, cellOf}
+use Rattle.cells.specs.Cells.{pointTo, cellOf}
 use Rattle.refusals.specs.Memory.{Lent}
 use Rattle.updates.specs.Calls.{changed}
-use Rattle.history.proofs.Tables.{Tables, Segment, Belongs}
+use Rattle.history.proofs.Tables.{Tables, Belongs}
 use Rattle.history.proofs.Matches.{Good, best-good, cell-direct, cells-differ}
 use Rattle.history.proofs.LiveTables.{TablesOf}
 use Rattle.history.proofs.Owners.{owned, ofOwner, owned-yes, sum-owned}

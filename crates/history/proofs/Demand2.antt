@@ -1,6 +1,6 @@
 -- Demand 2: after every history, look up answers each address of the territory with the hop of the longest live prefix that contains it,
 -- and with 8 exactly if none does. Assumes nothing.
-use mathlib.Core.Path.{_≡_, refl, sym, ap, subst, _∙_}
+use mathlib.Core.Path.{_≡_, refl, sym, ap, _∙_}
 use mathlib.Core.Bool.{Bool, true, false, cond}
 use mathlib.Core.List.{List}
 use Prim.Native.Nat.{ℕ, _+_, _*_, _/_, _%_, _≤_, _<_}
@@ -16,10 +16,10 @@ use Rattle.prefix.proofs.Prefixes.{in-range}
 use Rattle.prefix.proofs.Best.{best-is}
 use Rattle.prefix.proofs.Blocks.{closed, closed-short, block-top}
 use Rattle.cells.specs.declared.look.Answer.{Answer}
-use Rattle.cells.specs.Cells.{empty, pointerBit, pointTo, isPointer, segmentOf, hopOf, isDirect, cellOf}
+use Rattle.cells.specs.Cells.{empty, pointerBit, isPointer, segmentOf, hopOf, cellOf}
 use Rattle.cells.specs.Lookup.{refused, blockOf, verdictOf, saysOf, lookUp, found as found-hop}
 use Rattle.cells.proofs.Direct.{isDirect?}
-use Rattle.cells.proofs.Reading.{LentToRead, Stands, block-inside, goes-on}
+use Rattle.cells.proofs.Reading.{Stands, block-inside, goes-on}
 use Rattle.refusals.specs.Memory.{Lent}
 use Rattle.cells.proofs.Spans.{aligned}
 use Rattle.refusals.proofs.Lending.{IsLent}

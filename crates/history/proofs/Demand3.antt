@@ -4,7 +4,7 @@
 use mathlib.Core.Path.{_≡_, refl, sym, ap, subst, _∙_}
 use mathlib.Core.Bool.{Bool, true, false, cond, _||_, true≢false}
 use mathlib.Core.List.{List}
-use Prim.Native.Nat.{ℕ, _+_, _≤_, _<_}
+use Prim.Native.Nat.{ℕ, _≤_, _<_}
 use native.Mathlib.Omega.{arith}
 use lib.Dec.{eqb}
 use lib.ListN.{getD}
@@ -28,7 +28,7 @@ use Rattle.history.specs.Costs.{shortMost, Costs}
 use Rattle.history.specs.History.{Call, announces, withdraws, re-homes, named, History, _then_, memory, report, isAccepted, live}
 use Rattle.history.proofs.Announcing.{only-opening, announced-keeps}
 use Rattle.history.proofs.Withdrawing.{only-closing, withdrawn-keeps}
-use Rattle.history.proofs.Counts.{OneWay, opening, closing, count-is-price}
+use Rattle.history.proofs.Counts.{opening, closing, count-is-price}
 use Rattle.history.proofs.Bounds.{long-bound, short-bound}
 use Rattle.history.proofs.Invariant.{Inv, live-routes, announce-keeps, announced-owners, withdraw-keeps, withdrawn-owners}
 use Rattle.history.proofs.Histories.{Announces, announces-of, re-homes-of, Withdraws, withdraws-of, inv-history}

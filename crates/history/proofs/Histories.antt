@@ -1,11 +1,10 @@
 -- Every history keeps the invariant, with the live list that is read off it. Assumes nothing.
-use mathlib.Core.Path.{_≡_, refl, sym, ap, subst, _∙_}
+use mathlib.Core.Path.{_≡_, sym, ap, subst, _∙_}
 use mathlib.Core.Bool.{Bool, true, false, cond, not, _&&_, true≢false}
 use mathlib.Core.List.{List}
 use Prim.Native.Nat.{ℕ}
-use native.Mathlib.Omega.{arith}
 use lib.Dec.{eqb}
-use Rattle.ground.proofs.Tests.{Decides, holds, fails, eqb?, passes, stops, says, by-test}
+use Rattle.ground.proofs.Tests.{Decides, holds, fails, eqb?, passes, stops, says}
 use Rattle.prefix.specs.declared.Prefix.{Prefix}
 use Rattle.prefix.specs.Prefixes.{wellFormed, WellFormed, Encloses}
 use Rattle.prefix.specs.Routes.{Route, with-route, without, isRoute, IsRoute}
@@ -17,7 +16,7 @@ use Rattle.refusals.specs.Memory.{Lent}
 use Rattle.refusals.proofs.Lending.{IsLent}
 use Rattle.refusals.proofs.Refusing.{needsSegment?, announce-passed, live-passed}
 use Rattle.refusals.specs.Codes.{noZero, needsSegment, announceCode, withdrawCode, reHomeCode}
-use Rattle.updates.specs.Effects.{opened, announced, withdrawn}
+use Rattle.updates.specs.Effects.{announced, withdrawn}
 use Rattle.updates.specs.Calls.{accepted, refused, outcome, announce, withdraw, reHome}
 use Rattle.prefix.specs.Price.{isOpen, blockStart}
 use Rattle.prefix.proofs.Blocks.{Opens, opened?}
@@ -25,7 +24,7 @@ use Rattle.cells.specs.Lookup.{blockOf}
 use Rattle.cells.proofs.Reading.{block-inside}
 use Rattle.history.proofs.Tables.{closed-cell}
 use Rattle.cells.proofs.Spans.{opens-own}
-use Rattle.history.specs.History.{Call, announces, withdraws, re-homes, step, History, start, _then_, memory, report, isAccepted, change, live}
+use Rattle.history.specs.History.{announces, withdraws, re-homes, History, start, _then_, memory, report, isAccepted, live}
 use Rattle.history.proofs.Invariant.{Inv, inv-start, live-routes, announce-keeps, withdraw-keeps}
 
 -- a call that is accepted keeps the invariant with the changed list, and one that is refused with the same

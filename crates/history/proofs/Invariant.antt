@@ -1,21 +1,18 @@
 -- The invariant of a history: the rule words are the live list, and the tables hold the longest match of each address. Cleared memory has
 -- it, and each accepted call keeps it. Assumes nothing.
 use mathlib.Core.Path.{_≡_, refl, sym, ap, subst, _∙_}
-use mathlib.Core.Logic.{_⊎_, inl, inr}
-use mathlib.Core.Bool.{Bool, true, false, cond, not, _&&_, _||_, true≢false, false≢true}
+use mathlib.Core.Logic.{inl, inr}
+use mathlib.Core.Bool.{Bool, true, false, cond, true≢false, false≢true}
 use mathlib.Core.List.{List, [], _∷_, _++_, map, List·Memᴰ as Mem, List·Memᴰ·head as here, List·Memᴰ·tail as there, List·Memᴰ·not-nil}
 use Prim.Native.Nat.{ℕ, suc, _+_, _-_, _*_, _≤_, _<_}
 use native.Mathlib.Omega.{arith}
-use lib.Dec.{eqb}
 use lib.ListN.{length, getD, replicate, length-set, length-replicate, getD-replicate, List·getD-eq-default}
-use Rattle.ground.proofs.Tests.{Decides, holds, fails, leb?, eqb?, and?, iff?, passes, stops, says}
+use Rattle.ground.proofs.Tests.{eqb?, stops}
 use Rattle.ground.proofs.Cases.{by-lt}
 use Rattle.prefix.specs.declared.Prefix.{Prefix}
-use Rattle.prefix.specs.Prefixes.{key, isTerritory, encloses, wellFormed, WellFormed, Encloses, Territory}
-use Rattle.prefix.specs.Price.{isOpen, opened as opened-run, blocks, blockStart}
-use Rattle.prefix.specs.Routes.{Route, best, with-route, without, keep, other, isRoute, IsRoute, AllRoutes, Ascending}
-use Rattle.prefix.proofs.Prefixes.{isTerritory?, encloses?, wellFormed?}
-use Rattle.prefix.proofs.Best.{isRoute?}
+use Rattle.prefix.specs.Prefixes.{key, WellFormed, Encloses, Territory}
+use Rattle.prefix.specs.Price.{opened as opened-run, blockStart}
+use Rattle.prefix.specs.Routes.{Route, best, with-route, without, keep, other, IsRoute, AllRoutes, Ascending}
 use Rattle.prefix.proofs.Changes.{with-cases, keep-cases, with-mem, with-routes, with-ascending, without-mem, without-routes, without-ascending}
 use Rattle.rules.specs.Words.{wordOf}
 use Rattle.rules.specs.Rules.{routes, wordsOf, isLive}
@@ -31,7 +28,7 @@ use Rattle.tables.specs.Cellwise.{paintCell, unpaintCell}
 use Rattle.cells.specs.Cells.{pack, segmentOf, cellOf}
 use Rattle.cells.specs.Lookup.{blockOf}
 use Rattle.rules.proofs.Indices.{IsLive}
-use Rattle.history.proofs.Tables.{Tables, retold, cleared-tables}
+use Rattle.history.proofs.Tables.{retold, cleared-tables}
 use Rattle.history.proofs.LiveTables.{TablesOf}
 use Rattle.history.proofs.Announcing.{announced-tables}
 use Rattle.history.proofs.Withdrawing.{withdrawn-tables}

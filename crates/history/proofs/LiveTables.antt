@@ -1,6 +1,5 @@
 -- The tables of a live list: what a history leaves in the two tables and the owner words. Assumes nothing.
 use mathlib.Core.List.{List}
-use Prim.Native.Nat.{ℕ}
 use Rattle.prefix.specs.declared.Prefix.{Prefix}
 use Rattle.prefix.specs.Price.{isOpen, blockStart}
 use Rattle.prefix.specs.Routes.{Route, best}

@@ -1,22 +1,22 @@
 -- Cells of matches: what a cell says of the match that it stands for, and that painting and unpainting a cell is what becomes of the longest
 -- match. Assumes nothing.
-use mathlib.Core.Path.{_≡_, refl, sym, ap, ap₂, subst, _∙_}
+use mathlib.Core.Path.{_≡_, refl, sym, ap, ap₂, _∙_}
 use mathlib.Core.Bool.{Bool, true, false, cond, not, _&&_, _||_}
 use mathlib.Core.List.{List}
-use Prim.Native.Nat.{ℕ, _+_, _*_, _%_, _/_, _^_, _≤_, _<_}
+use Prim.Native.Nat.{ℕ, _≤_, _<_}
 use native.Mathlib.Omega.{arith}
 use lib.Dec.{leb, eqb}
 use Rattle.ground.specs.Lists.{differs}
-use Rattle.ground.proofs.Tests.{Decides, holds, fails, leb?, eqb?, and?, iff?, passes, stops, by-test, same-test, cond-on, cond-off}
+use Rattle.ground.proofs.Tests.{Decides, holds, fails, eqb?, stops, by-test}
 use Rattle.ground.proofs.Lists.{differs-same, differs-other}
 use Rattle.prefix.specs.declared.Prefix.{Prefix}
 use Rattle.prefix.specs.Prefixes.{contains, WellFormed, Contains}
 use Rattle.prefix.specs.Price.{differ}
-use Rattle.prefix.specs.Routes.{Route, Match, no-route, via, better, best, without, noLonger, IsRoute, AllRoutes, Ascending}
+use Rattle.prefix.specs.Routes.{Route, Match, no-route, via, better, best, without, noLonger, AllRoutes, Ascending}
 use Rattle.prefix.proofs.Prefixes.{contains?}
 use Rattle.prefix.proofs.Changes.{best-length, hasLength, without-other}
 use Rattle.prefix.proofs.Blocks.{differ-same, differ-other}
-use Rattle.cells.specs.Cells.{empty, pack, hopOf, lengthOf, pointerBit, cellOf, isDirect}
+use Rattle.cells.specs.Cells.{empty, pack, lengthOf, pointerBit, cellOf}
 use Rattle.tables.specs.Cellwise.{paintCell, unpaintCell}
 
 -- a match that a list of routes can give: a hop from 1 to 32,767 and a length of at most 32

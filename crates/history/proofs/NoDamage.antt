@@ -1,21 +1,21 @@
 -- No call of a history answers 4: the memory that a history leaves is not damaged for any prefix of the territory. Assumes nothing.
-use mathlib.Core.Path.{_≡_, refl, sym, ap, subst, _∙_}
+use mathlib.Core.Path.{_≡_, refl, sym, subst, _∙_}
 use mathlib.Core.Logic.{inl, inr}
 use mathlib.Core.Bool.{Bool, true, false, cond, not, _&&_}
 use mathlib.Core.List.{List}
-use Prim.Native.Nat.{ℕ, _+_, _*_, _≤_, _<_}
+use Prim.Native.Nat.{ℕ, _+_, _≤_, _<_}
 use native.Mathlib.Omega.{arith}
-use lib.Dec.{eqb, lit≤}
+use lib.Dec.{eqb}
 use lib.ListN.{length, getD}
-use Rattle.ground.proofs.Tests.{Decides, passes, says}
+use Rattle.ground.proofs.Tests.{passes, says}
 use Rattle.prefix.specs.declared.Prefix.{Prefix}
 use Rattle.prefix.specs.Prefixes.{wellFormed, encloses, WellFormed, Encloses}
-use Rattle.prefix.specs.Price.{isOpen, blocks, blockStart}
-use Rattle.prefix.specs.Routes.{Route, Match, no-route, via, best, isRoute, AllRoutes}
+use Rattle.prefix.specs.Price.{blocks, blockStart}
+use Rattle.prefix.specs.Routes.{Route, Match, no-route, via, best, isRoute}
 use Rattle.prefix.proofs.Prefixes.{wellFormed?, encloses?}
 use Rattle.prefix.proofs.Best.{isRoute?}
 use Rattle.prefix.proofs.Blocks.{closed-short}
-use Rattle.cells.specs.Cells.{pointerBit, segmentOf, cellOf}
+use Rattle.cells.specs.Cells.{segmentOf, cellOf}
 use Rattle.cells.specs.Lookup.{blockOf}
 use Rattle.rules.specs.Rules.{routes, isLive, Formed}
 use Rattle.rules.proofs.RouteWords.{words-formed}
@@ -24,12 +24,12 @@ use Rattle.refusals.specs.Damage.{undamaged}
 use Rattle.refusals.specs.Codes.{noZero, needsSegment, tested, announceCode, withdrawCode, reHomeCode}
 use Rattle.refusals.proofs.Lending.{IsLent}
 use Rattle.cells.proofs.Spans.{blocks-inside}
-use Rattle.refusals.proofs.Soundness.{Clean, SegmentSound, BlockSound, Undamaged, undamaged?}
+use Rattle.refusals.proofs.Soundness.{Clean, SegmentSound, BlockSound, undamaged?}
 use Rattle.updates.specs.Effects.{announced, withdrawn}
 use Rattle.updates.specs.Calls.{accepted, refused, outcome, announce, withdraw, reHome}
 use Rattle.history.specs.History.{Call, announces, withdraws, re-homes, History, memory, report, live}
 use Rattle.history.proofs.Tables.{closed-cell, open-pointer}
-use Rattle.history.proofs.Matches.{Good, best-good, cell-direct}
+use Rattle.history.proofs.Matches.{Good, best-good}
 use Rattle.history.proofs.Invariant.{Inv, live-routes}
 use Rattle.history.proofs.Histories.{inv-history}
 

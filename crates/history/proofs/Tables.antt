@@ -1,21 +1,19 @@
 -- What the two tables and the owner words hold after a history, and how opening, repainting and closing carry it along. Said of any set of
 -- open blocks and any cell for each address, so that each step is shown once. Assumes nothing.
-use mathlib.Core.Path.{_≡_, refl, sym, ap, ap₂, subst, _∙_}
+use mathlib.Core.Path.{_≡_, refl, sym, ap, subst, _∙_}
 use mathlib.Core.Bool.{Bool, true, false, cond, and-true, and-false, false≢true}
 use mathlib.Core.List.{List}
-use Prim.Native.Nat.{ℕ, _+_, _-_, _*_, _/_, _%_, _^_, _≤_, _<_}
+use Prim.Native.Nat.{ℕ, _+_, _-_, _*_, _/_, _%_, _≤_, _<_}
 use native.Mathlib.Omega.{arith}
-use lib.Dec.{eqb}
 use lib.ListN.{length, getD, set, length-set}
 use lib.Seq.{getD-set-same, getD-set-other}
-use Rattle.ground.specs.Lists.{changeWhere}
-use Rattle.ground.proofs.Tests.{Decides, leb?, eqb?, passes, stops}
+use Rattle.ground.proofs.Tests.{leb?, eqb?, passes, stops}
 use Rattle.ground.proofs.Cases.{by-eq}
 use Rattle.ground.proofs.Lists.{getD-where, length-where}
 use Rattle.prefix.specs.declared.Prefix.{Prefix}
 use Rattle.prefix.specs.Prefixes.{contains}
 use Rattle.prefix.specs.Price.{blocks, blockStart}
-use Rattle.cells.specs.Cells.{pointerBit, pointTo, isPointer}
+use Rattle.cells.specs.Cells.{pointerBit, pointTo}
 use Rattle.tables.specs.Cellwise.{directIn, cellAddress, isOpenSegment, openIn, firstChanged, longChanged}
 use Rattle.tables.specs.Segments.{segmentFilled}
 

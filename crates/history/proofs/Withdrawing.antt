@@ -2,17 +2,17 @@
 use mathlib.Core.Path.{_≡_, refl, sym, ap, subst, _∙_}
 use mathlib.Core.Bool.{Bool, true, false, cond, true≢false}
 use mathlib.Core.List.{List, List·Memᴰ as Mem}
-use Prim.Native.Nat.{ℕ, _≤_, _<_}
+use Prim.Native.Nat.{ℕ, _<_}
 use native.Mathlib.Omega.{arith}
 use lib.ListN.{getD}
 use lib.Seq.{getD-set-other}
-use Rattle.ground.proofs.Tests.{Decides, holds, fails, ltb?, and?, not?, iff?, passes, denies, by-test}
+use Rattle.ground.proofs.Tests.{Decides, holds, fails, passes}
 use Rattle.ground.proofs.Cases.{by-lt, by-eq}
 use Rattle.prefix.specs.declared.Prefix.{Prefix}
 use Rattle.prefix.specs.Prefixes.{contains, WellFormed, Encloses, Territory}
-use Rattle.prefix.specs.Price.{opens, isOpen, blocks, blockStart}
+use Rattle.prefix.specs.Price.{isOpen, blocks, blockStart}
 use Rattle.prefix.specs.Routes.{Route, best, without, AllRoutes, Ascending}
-use Rattle.prefix.proofs.Blocks.{Opens, opens?, opened?, opened-without-other, opened-fewer}
+use Rattle.prefix.proofs.Blocks.{Opens, opened?, opened-without-other, opened-fewer}
 use Rattle.prefix.proofs.Changes.{without-routes}
 use Rattle.cells.specs.Cells.{pointerBit, pointTo, segmentOf, cellOf}
 use Rattle.cells.specs.Lookup.{blockOf}

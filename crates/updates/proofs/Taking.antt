@@ -3,7 +3,7 @@
 use mathlib.Core.Path.{_≡_, refl, sym, ap, ap₂, subst, _∙_}
 use mathlib.Core.Bool.{Bool, true, false, cond, true≢false}
 use mathlib.Core.List.{List, [], _∷_, List·Memᴰ as Mem, List·Memᴰ·head as here, List·Memᴰ·tail as there, List·Memᴰ·not-nil}
-use Prim.Native.Nat.{ℕ, suc, _+_, _-_, _*_, _/_, _%_, _≤_, _<_}
+use Prim.Native.Nat.{ℕ, suc, _+_, _-_, _%_, _<_}
 use native.Mathlib.Omega.{arith}
 use lib.ListN.{length, getD, set, length-map}
 use Rattle.ground.specs.Lists.{differing}
@@ -18,7 +18,7 @@ use Rattle.prefix.proofs.Changes.{keep-cases, without-mem, without-routes, with
 use Rattle.cells.specs.Cells.{empty, segmentOf, cellOf}
 use Rattle.cells.specs.Lookup.{blockOf}
 use Rattle.rules.specs.Words.{routeOf}
-use Rattle.rules.specs.Rules.{live, routes, isLive, wordsOf, Formed, Listed, PlaceIs}
+use Rattle.rules.specs.Rules.{live, routes, wordsOf, Formed, Listed, PlaceIs}
 use Rattle.rules.proofs.FormTests.{formed-listed}
 use Rattle.rules.proofs.LiveWords.{live-at}
 use Rattle.rules.proofs.Indices.{IsLive, isLive?, routes-index}

@@ -1,14 +1,12 @@
 -- `put::paint_route` meets its contract: where the block has no segment and needs one, the lowest free one is opened and painted, and else
 -- the cells are painted where they stand. Assumes nothing.
 use mathlib.Core.Path.{_≡_, sym, _∙_}
-use mathlib.Core.Bool.{true}
 use native.Mathlib.Omega.{arith}
 use Rattle.refusals.specs.Memory.{Lent, memory}
 use Rattle.rules.specs.Words.{routeBy}
 use Rattle.prefix.specs.Routes.{Route}
 use Rattle.refusals.specs.Codes.{needsSegment}
 use Rattle.tables.proofs.Repaints.{past-base, block-lent}
-use Rattle.updates.specs.Steps.{Paintable}
 use Rattle.updates.proofs.Putting.{openable, repaintable, painted-opened, painted-direct}
 use borrow.Author.Needs.{needs}
 use Rattle.updates.proofs.put.paint_route.Statement.{statement}

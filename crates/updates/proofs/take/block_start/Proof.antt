@@ -1,5 +1,4 @@
 -- `take::block_start` meets its contract: blocks start at multiples of 256, and so does the territory. Assumes nothing.
-use native.Mathlib.Omega.{arith}
 use borrow.Author.Needs.{needs}
 use Rattle.updates.proofs.Taking.{block-begins}
 use Rattle.updates.proofs.take.block_start.Statement.{statement}

@@ -10,7 +10,6 @@ use Rattle.prefix.specs.Price.{isOpen}
 use Rattle.rules.specs.Rules.{routes}
 use Rattle.updates.specs.Effects.{closes}
 use Rattle.updates.proofs.Taking.{closes?, block-aligned}
-use borrow.Author.Needs.{needs}
 use Rattle.updates.proofs.take.closes_block.Statement.{statement}
 use Rattle.updates.proofs.take.closes_block.Tie as tie
 
