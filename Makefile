@@ -1,7 +1,7 @@
 # make run: the small program on the paper's records.     make test: every check there is; .ci/run calls it.
 # make install PREFIX=/usr/local                           make soak SECONDS=600 SEED=7: the independent check, for longer
-# make bench: beside DPDK and plain C; no part of the gate
-.PHONY: run test library c-check example install soak bench clean
+# make bench: beside DPDK and plain C; no part of the gate  make valgrind: the C example under valgrind; no part of the gate either
+.PHONY: run test library c-check example install soak bench valgrind clean
 
 PREFIX ?= /usr/local
 SECONDS ?= 600
@@ -57,6 +57,9 @@ soak: library
 
 bench:
 	@bench/run
+
+valgrind:
+	@tools/valgrind-example
 
 clean:
 	rm -rf target
