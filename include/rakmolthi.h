@@ -98,7 +98,7 @@ uint32_t rk_look_up(const uint8_t *first, size_t first_bytes, const uint8_t *lon
 
 /*
  * Looks many addresses up. Answers 1, and writes nothing, where rk_look_up would answer 1 or the two counts differ; else 0, and answers[i]
- * is rk_look_up's number for addresses[i]. For a buffer full of addresses it is some three times as fast as one call for each.
+ * is rk_look_up's number for addresses[i]. For a buffer full of addresses it is faster than one call for each.
  */
 uint32_t rk_look_up_all(const uint32_t *first, size_t first_cells, const uint32_t *long_table, size_t long_cells, uint32_t base,
                         uint32_t base_length, const uint32_t *addresses, size_t address_count, uint32_t *answers, size_t answer_count);
