@@ -11,6 +11,7 @@ LIBRARY = target/staticlib/librakmolthi.a
 CFLAGS = -std=c99 -O1 -Wall -Wextra -pedantic -Iinclude
 
 run:
+	@[ -x target/bin/collector ] || echo 'make run: the program is proved and built first; that takes some minutes' >&2
 	@mkdir -p target
 	@rt check collector >target/run.log 2>&1 || { tail -20 target/run.log; exit 1; }
 	@tools/x86-run target/bin/collector <crates/collector/stdin
