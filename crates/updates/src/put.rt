@@ -1,7 +1,5 @@
 // Announce and re-home, once nothing refuses: the cells of the prefix are painted, in a segment that is opened if need be, and the route
 // is put among the rules.
-ghost use mathlib.Core.Path.{_≡_};
-ghost use Prim.Native.Nat.{ℕ};
 ghost use Rattle.refusals.specs.Memory.{memory};
 ghost use Rattle.rules.specs.Words.{routeBy};
 ghost use Rattle.updates.specs.Calls.{accepted, Meets};

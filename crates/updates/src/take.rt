@@ -1,7 +1,6 @@
 // Withdraw, once nothing refuses: the prefix is taken out of the rules first, so that the longest other match is the longest match, and
 // then its cells are repainted, or its segment closes.
 ghost use mathlib.Core.Path.{_≡_};
-ghost use Prim.Native.Nat.{ℕ};
 ghost use Rattle.rules.specs.Rules.{routes, Listed};
 ghost use Rattle.refusals.specs.Memory.{memory};
 ghost use Rattle.prefix.specs.Price.{blockStart};
