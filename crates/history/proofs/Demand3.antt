@@ -3,7 +3,7 @@
 -- a refused update costs 0. Assumes nothing.
 use mathlib.Core.Path.{_≡_, refl, sym, ap, subst, _∙_}
 use mathlib.Core.Bool.{Bool, true, false, cond, _||_, true≢false}
-use mathlib.Core.List.{List}
+use mathlib.Core.List.{List, List·Memᴰ as Mem}
 use Prim.Native.Nat.{ℕ, _≤_, _<_}
 use native.Mathlib.Omega.{arith}
 use lib.Dec.{eqb}
@@ -15,7 +15,7 @@ use Rattle.prefix.specs.Prefixes.{Contains}
 use Rattle.prefix.specs.Price.{isOpen, blocks, blockStart, price}
 use Rattle.prefix.specs.Routes.{Route, best, with-route, without}
 use Rattle.prefix.proofs.Best.{better-off}
-use Rattle.prefix.proofs.Changes.{best-with, without-other}
+use Rattle.prefix.proofs.Changes.{best-with, with-same, without-other}
 use Rattle.prefix.proofs.Blocks.{Opens, opens?, opened-with, opened-without-other, price-none}
 use Rattle.rules.proofs.Indices.{IsLive}
 use Rattle.refusals.specs.Memory.{Lent}
@@ -153,3 +153,16 @@ unfolding memory isAccepted report announce withdraw reHome
 refused-nothing t m h (announces r) e = kept (announceCode t (memory t m h) r) (memory t m h) (announced t r (memory t m h)) e
 refused-nothing t m h (withdraws p) e = kept (withdrawCode t (memory t m h) p) (memory t m h) (withdrawn t p (memory t m h)) e
 refused-nothing t m h (re-homes r) e = kept (reHomeCode t (memory t m h) r) (memory t m h) (announced t r (memory t m h)) e
+
+-- Announcing a live prefix with the same hop costs 0.
+pub same-hop : (t : Prefix) (m : Lent) → IsLent m t → (h : History) (r : Route) → Mem r (live t m h) → report t m h (announces r) .cells ≡ 0
+unfolding live
+same-hop t m l h r lives =
+    let rs = live t m h in
+    demand-3 t m l h (announces r) .priced
+    ∙ ap (price t rs) (ap (λ (x : List Route). cond (isAccepted t m h (announces r)) x rs) (with-same r rs (inv-history t m l h .list .order) lives) ∙ either (isAccepted t m h (announces r)) rs)
+    ∙ price-none t rs
+  where
+    either : (x : Bool) (rs : List Route) → cond x rs rs ≡ rs
+    either true rs = refl
+    either false rs = refl

@@ -1,10 +1,10 @@
 -- Every history keeps the invariant, with the live list that is read off it. Assumes nothing.
 use mathlib.Core.Path.{_≡_, sym, ap, subst, _∙_}
 use mathlib.Core.Bool.{Bool, true, false, cond, not, _&&_, true≢false}
-use mathlib.Core.List.{List}
+use mathlib.Core.List.{List, []}
 use Prim.Native.Nat.{ℕ}
 use lib.Dec.{eqb}
-use Rattle.ground.proofs.Tests.{Decides, holds, fails, eqb?, passes, stops, says}
+use Rattle.ground.proofs.Tests.{Decides, holds, fails, eqb?, passes, stops, says, cond-on}
 use Rattle.prefix.specs.declared.Prefix.{Prefix}
 use Rattle.prefix.specs.Prefixes.{wellFormed, WellFormed, Encloses}
 use Rattle.prefix.specs.Routes.{Route, with-route, without, isRoute, IsRoute}
@@ -13,11 +13,11 @@ use Rattle.prefix.proofs.Best.{isRoute?}
 use Rattle.rules.specs.Rules.{routes, isLive}
 use Rattle.rules.proofs.Indices.{IsLive, isLive?}
 use Rattle.refusals.specs.Memory.{Lent}
-use Rattle.refusals.proofs.Lending.{IsLent}
+use Rattle.refusals.proofs.Lending.{IsLent, isLent?}
 use Rattle.refusals.proofs.Refusing.{needsSegment?, announce-passed, live-passed}
-use Rattle.refusals.specs.Codes.{noZero, needsSegment, announceCode, withdrawCode, reHomeCode}
-use Rattle.updates.specs.Effects.{announced, withdrawn}
-use Rattle.updates.specs.Calls.{accepted, refused, outcome, announce, withdraw, reHome}
+use Rattle.refusals.specs.Codes.{noZero, needsSegment, announceCode, withdrawCode, reHomeCode, clearCode}
+use Rattle.updates.specs.Effects.{cleared, announced, withdrawn}
+use Rattle.updates.specs.Calls.{Outcome, accepted, refused, outcome, clear, announce, withdraw, reHome}
 use Rattle.prefix.specs.Price.{isOpen, blockStart}
 use Rattle.prefix.proofs.Blocks.{Opens, opened?}
 use Rattle.cells.specs.Lookup.{blockOf}
@@ -114,9 +114,16 @@ module _ (t : Prefix) (rs : List Route) (m : Lent) (I : Inv t rs m) where
 
 -- ---- every history
 
+-- clear, where what is lent has the right sizes
+clear-lent : (t : Prefix) (m : Lent) → IsLent m t → clear t m .lent ≡ cleared m
+unfolding clear clearCode
+clear-lent t m l =
+    let zero : clearCode t m ≡ 0 = ap (λ (x : Bool). cond (not x) 1 0) (passes (isLent? m t) l) in
+    ap (λ (o : Outcome). o .lent) (cond-on _ _ (eqb? (clearCode t m) 0) zero)
+
 pub inv-history : (t : Prefix) (m : Lent) → IsLent m t → (h : History) → Inv t (live t m h) (memory t m h)
 unfolding memory live isAccepted report announce withdraw reHome
-inv-history t m l start = inv-start t m l
+inv-history t m l start = subst (Inv t []) (sym (clear-lent t m l)) (inv-start t m l)
 inv-history t m l (h then announces r) =
     let I = inv-history t m l h in
     stepped t (live t m h) (with-route r (live t m h)) (memory t m h) (announced t r (memory t m h)) (announceCode t (memory t m h) r) I

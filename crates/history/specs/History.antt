@@ -1,4 +1,4 @@
--- A history: cleared memory, then any number of announce, withdraw and re-home calls, refused ones among them. Each step is the outcome
+-- A history: a call of clear, then any number of announce, withdraw and re-home calls, refused ones among them. Each step is the outcome
 -- that the call's own contract gives. What is live is read off the history. Assumes nothing.
 use mathlib.Core.Path.{_≡_}
 use Prim.Native.Nat.{ℕ}
@@ -12,8 +12,7 @@ use Rattle.cells.specs.declared.look.Answer.{Answer}
 use Rattle.cells.specs.Lookup.{found, refused}
 use Rattle.refusals.specs.Memory.{Lent}
 use Rattle.updates.specs.declared.Report.{Report}
-use Rattle.updates.specs.Effects.{cleared}
-use Rattle.updates.specs.Calls.{Outcome, announce, withdraw, reHome}
+use Rattle.updates.specs.Calls.{Outcome, clear, announce, withdraw, reHome}
 
 pub data Call : Type 0 where
   announces : Route → Call
@@ -37,9 +36,9 @@ pub data History : Type 0 where
   _then_ : History → Call → History
 
 infixl 30 _then_
--- the lent memory after a history in the territory t, from memory m that clear sets to 0
+-- the lent memory after a history in the territory t: first what a call of clear leaves of m, then what each call leaves
 unfoldable pub memory : Prefix → Lent → History → Lent
-memory t m start = cleared m
+memory t m start = clear t m .lent
 memory t m (h then c) = step t c (memory t m h) .lent
 
 -- what a call reports after a history

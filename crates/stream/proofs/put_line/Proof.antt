@@ -1,0 +1,67 @@
+-- `put_line` meets its contract: three stores one after another. Assumes nothing.
+use mathlib.Core.Path.{_≡_, ap, _∙_}
+use mathlib.Core.List.{[], _∷_, append-assoc}
+use Prim.Native.Nat.{ℕ, suc, _+_, _*_}
+use native.Mathlib.Omega.{arith}
+use lib.ListN.{set, length-set, take, drop}
+use lib.Seq.{sets-eq}
+use borrow.Author.Needs.{needs}
+use Rattle.stream.proofs.put_line.Statement.{statement}
+use Rattle.stream.proofs.put_line.Tie as tie
+
+mul-at : tie.Need-mul-at
+mul-at c = search needs
+
+mul-lines : tie.Need-mul-lines
+mul-lines c = search needs
+
+slice-write-lines : tie.Need-slice-write-lines
+slice-write-lines c = search needs
+
+add-lines : tie.Need-add-lines
+add-lines c = search needs
+
+mul-lines-2 : tie.Need-mul-lines-2
+mul-lines-2 c = search needs
+
+slice-write-lines-2 : tie.Need-slice-write-lines-2
+slice-write-lines-2 c = simp length-set (omega arith)
+
+add-lines-2 : tie.Need-add-lines-2
+add-lines-2 c = search needs
+
+mul-lines-3 : tie.Need-mul-lines-3
+mul-lines-3 c = search needs
+
+slice-write-lines-3 : tie.Need-slice-write-lines-3
+slice-write-lines-3 c = simp length-set (omega arith)
+
+same-length : tie.Need-same-length
+same-length c = search needs
+
+returns : tie.Need-returns
+returns c =
+    let line = c .args .serial ∷ c .args .report .code ∷ c .args .report .cells ∷ [] in
+    let lines = c .args .lines .now in
+    let at = 3 * c .args .before in
+    let one : at + 1 ≡ suc at = omega arith in
+    let two : at + 2 ≡ suc (suc at) = omega arith in
+    ap (λ (k : ℕ). set (set (set lines at (c .args .serial)) k (c .args .report .code)) (at + 2) (c .args .report .cells)) one
+    ∙ ap (λ (k : ℕ). set (set (set lines at (c .args .serial)) (suc at) (c .args .report .code)) k (c .args .report .cells)) two
+    ∙ sets-eq line lines at (c .pre) ∙ append-assoc (take at lines) line (drop (at + 3) lines)
+
+pub put-line-spec : {M : Type 1} → statement M
+put-line-spec =
+    tie.close
+    (tie.spec
+    mul-at
+    mul-lines
+    slice-write-lines
+    add-lines
+    mul-lines-2
+    slice-write-lines-2
+    add-lines-2
+    mul-lines-3
+    slice-write-lines-3
+    same-length
+    returns)
