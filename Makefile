@@ -1,33 +1,44 @@
 # make run: the small program on the paper's records.     make test: every check there is; .ci/run calls it.
 # make install PREFIX=/usr/local                           make soak SECONDS=600 SEED=7: the independent check, for longer
 # make bench: beside DPDK and plain C; no part of the gate  make valgrind: the C example under valgrind; no part of the gate either
-.PHONY: run test library c-check example install soak bench valgrind clean
+.PHONY: run test library program c-check streams example install soak bench valgrind clean
 
 PREFIX ?= /usr/local
 SECONDS ?= 600
 SEED ?= 1
 
 LIBRARY = target/staticlib/librakmolthi.a
+PROGRAM = target/bin/collector
+SOURCES = crates.txt $(shell find crates -name '*.rt')
 CFLAGS = -std=c99 -O1 -Wall -Wextra -pedantic -Iinclude
 
 run:
-	@[ -x target/bin/collector ] || echo 'make run: the program is proved and built first; that takes some minutes' >&2
-	@mkdir -p target
-	@rt check collector >target/run.log 2>&1 || { tail -20 target/run.log; exit 1; }
-	@tools/x86-run target/bin/collector <crates/collector/stdin
+	@[ -x $(PROGRAM) ] || echo 'make run: the program is proved and built first; that takes some minutes' >&2
+	@$(MAKE) --no-print-directory program
+	@tools/x86-run $(PROGRAM) <examples/records
 
 # The order matters: rt ci removes target/, and its own last line is to be the last one.
 test:
 	@rt fmt --check
+	@tools/settled
 	@python3 check/test_model.py
 	@$(MAKE) --no-print-directory c-check
 	@$(MAKE) --no-print-directory example
+	@$(MAKE) --no-print-directory streams
 	@rt ci
 
 library: $(LIBRARY)
 
-$(LIBRARY): crates.txt $(shell find crates -name '*.rt')
+$(LIBRARY): $(SOURCES)
 	@rt staticlib rakmolthi >/dev/null
+
+program: $(PROGRAM)
+
+# The kit's part in C, which tells why a read or a write failed, stands beside its guides.
+$(PROGRAM): programs/collector.c $(SOURCES)
+	@rt staticlib collector >/dev/null
+	@mkdir -p target/bin
+	@tools/x86-cc $(CFLAGS) -static -o $@ programs/collector.c target/staticlib/libcollector.a "$$(dirname "$$(dirname "$$(rt doc)")")/lib/libos_c.a"
 
 # The header alone, as C99 and as C++; then the library against the independent model, for about a minute.
 c-check: library
@@ -37,15 +48,21 @@ c-check: library
 	@tools/x86-cc $(CFLAGS) -static -o target/c/driver check/driver.c $(LIBRARY)
 	@python3 check/check.py --seed 1 tools/x86-run target/c/driver
 
-# The paper's records, made again from their text; the C example on them, and what it is to say.
-example: library
+# The small program on streams of all kinds, each line compared with the independent model.
+streams: program
+	@python3 check/streams.py --seed 1 tools/x86-run $(PROGRAM)
+
+# The paper's records, made again from their text; the small program and the C example on them, and what each is to say.
+example: library program
 	@mkdir -p target/c
-	@examples/make-records <examples/records.txt | cmp - crates/collector/stdin
+	@examples/make-records <examples/records.txt | cmp - examples/records
+	@tools/x86-run $(PROGRAM) <examples/records | cmp - examples/collector.out
 	@tools/x86-cc $(CFLAGS) -static -o target/c/site examples/site.c $(LIBRARY)
-	@tools/x86-run target/c/site 10.16.0.1 10.16.3.200 192.0.2.1 <crates/collector/stdin >target/c/site.out
+	@tools/x86-run target/c/site 10.16.0.1 10.16.3.200 192.0.2.1 <examples/records >target/c/site.out
 	@cmp target/c/site.out examples/site.out && echo 'example: as it is to be'
 
 install: library
+	@case $$(uname -m) in x86_64) ;; *) echo "make install: the library is x86-64 code: on this $$(uname -m) only a cross compiler can link it (CC=x86_64-linux-gnu-gcc)" >&2 ;; esac
 	install -d $(DESTDIR)$(PREFIX)/include $(DESTDIR)$(PREFIX)/lib/pkgconfig
 	install -m 644 include/rakmolthi.h $(DESTDIR)$(PREFIX)/include/
 	install -m 644 $(LIBRARY) $(DESTDIR)$(PREFIX)/lib/

@@ -7,3 +7,4 @@ pub mod Answers
 pub mod Showing
 pub mod Words
 mod OneOutcome
+pub mod FromC

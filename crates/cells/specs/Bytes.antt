@@ -1,5 +1,5 @@
 -- Tables as bytes, four to a cell, the lowest first, and the look up on them as one number. Assumes nothing.
-use Prim.Native.Nat.{ℕ, _+_, _*_, _%_}
+use Prim.Native.Nat.{ℕ, _+_, _*_, _/_, _%_}
 use mathlib.Core.Bool.{cond, _&&_}
 use mathlib.Core.List.{List, [], _∷_}
 use lib.Dec.{eqb}
@@ -17,6 +17,11 @@ words (a ∷ b ∷ c ∷ []) = []
 words (a ∷ b ∷ []) = []
 words (a ∷ []) = []
 words [] = []
+
+-- the bytes that spell words
+unfoldable pub bytesOf : List ℕ → List ℕ
+bytesOf [] = []
+bytesOf (w ∷ ws) = w % 256 ∷ w / 256 % 256 ∷ w / 65536 % 256 ∷ w / 16777216 ∷ bytesOf ws
 
 -- the look up on the words, and refusal 1 where a length is no multiple of 4
 unfoldable pub lookUpBytes : List ℕ → List ℕ → Prefix → ℕ → ℕ

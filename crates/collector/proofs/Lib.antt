@@ -1,3 +1,2 @@
--- Laws of the collector: `Counting` has those of the last line's counts, and `Steps` what a record does.
-mod Counting
-mod Steps
+-- Laws of the program's loop: pieces of the input, one after another.
+mod Running

@@ -57,6 +57,24 @@ stream-refused bytes expected some z =
     let n : recordsIn bytes ≡ suc (recordsIn bytes - 1) = omega arith in
     ap (λ (k : ℕ). ofRecords k bytes expected) n ∙ of-refused (recordsIn bytes - 1) bytes expected z
 
+-- no record carries more than one update
+of-few : (n : ℕ) (bytes : List ℕ) (expected : ℕ) → length (ofRecords n bytes expected .updates) ≤ n
+unfolding ofRecords
+of-few zero bytes expected = omega arith
+of-few (suc n) bytes expected =
+    by-test (eqb? (readAs bytes expected .code) 0)
+    (λ z.
+    let rest = ofRecords n (drop size bytes) (nextSerial (readAs bytes expected .update .serial)) in
+    let one : length (ofRecords (suc n) bytes expected .updates) ≡ suc (length (rest .updates)) = ap (λ (s : Stream). length (s .updates)) (of-more n bytes expected z) in
+    omega (arith, of-few n (drop size bytes) (nextSerial (readAs bytes expected .update .serial))))
+    (λ z.
+    let none : length (ofRecords (suc n) bytes expected .updates) ≡ 0 = ap (λ (s : Stream). length (s .updates)) (of-refused n bytes expected z) in
+    omega arith)
+
+pub stream-few : (bytes : List ℕ) (expected : ℕ) → length (streamOf bytes expected .updates) ≤ recordsIn bytes
+unfolding streamOf
+stream-few bytes expected = of-few (recordsIn bytes) bytes expected
+
 -- ---- bytes that come in pieces
 
 -- the serial that is expected, and whether one is
