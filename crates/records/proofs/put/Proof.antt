@@ -60,9 +60,9 @@ returns c =
     let u = s .args .update in
     let started = set (set (length-call c .put-u16 .last .0) 2 1) 3 (u .kind) in
     let serial = by-bytes (serial-call c .put-u32 .last .0) started 4 (u .serial) _ _ _ _ (serial-call c .put-u32 .ensures)
-        (omega arith) (omega arith) (omega arith) (omega arith) in
+    (omega arith) (omega arith) (omega arith) (omega arith) in
     let address = by-bytes (address-call c .put-u322 .last .0) (serial-call c .put-u32 .last .0) 8 (u .address) _ _ _ _ (address-call c .put-u322 .ensures)
-        (omega arith) (omega arith) (omega arith) (omega arith) in
+    (omega arith) (omega arith) (omega arith) (omega arith) in
     stored u (now (s .args .room)) _ _ _ _ (s .pre) (length-call c .put-u16 .ensures) serial address (hop-call c .put-u162 .ensures)
 
 pub put-spec : {M : Type 1} → statement M
