@@ -1,6 +1,6 @@
 -- What a cell says, one law for each case; and an answer's code and hop are small, so that the one number that holds both tells them.
 -- Assumes nothing.
-use mathlib.Core.Path.{_≡_, _∙_}
+use mathlib.Core.Path.{_≡_, ap, _∙_}
 use mathlib.Core.Bool.{Bool, true, false, cond}
 use mathlib.Core.List.{List}
 use Prim.Native.Nat.{ℕ, _+_, _*_, _/_, _%_, _≤_, _<_}
@@ -31,6 +31,10 @@ module _ (long : List ℕ) (low cell : ℕ) where
     unfolding saysOf
     not-lent h =
         cond-on _ _ (leb? pointerBit cell) pointer ∙ cond-off _ _ (ltb? (segmentOf cell) (length long / 256)) (λ l. omega arith)
+
+-- the same for an equal low byte
+pub by-low : (long : List ℕ) (low m cell n : ℕ) → n ≡ packed (saysOf long low cell) → low ≡ m → n ≡ packed (saysOf long m cell)
+by-low long low m cell n e h = e ∙ ap (λ (x : ℕ). packed (saysOf long x cell)) h
 
 -- ---- small answers
 

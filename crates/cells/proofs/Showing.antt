@@ -1,5 +1,5 @@
 -- What the number of show says of the tables, and the part that is shown, one law for each case. Assumes nothing.
-use mathlib.Core.Path.{_≡_, sym, ap, _∙_}
+use mathlib.Core.Path.{_≡_, sym, ap, ap₂, _∙_}
 use mathlib.Core.Bool.{Bool, cond, _&&_}
 use mathlib.Core.List.{List, []}
 use Prim.Native.Nat.{ℕ, _+_, _-_, _*_, _/_, _≤_, _<_}
@@ -60,6 +60,11 @@ module _ (first long : Run) (t : Prefix) (a : ℕ) where
   shown-none n =
       sym (cond-off _ _ (eqb? (showCode (first .cells) (long .cells) t a) 0) n
       ∙ ap (λ (offset : ℕ). record { place = (first .place .0, offset); cells = [] }) (zero-add (first .place .1)))
+
+  -- the same of the empty part at a place that is the first table's start
+  pub shown-none-at : (memory offset : ℕ) → memory ≡ first .place .0 → offset ≡ first .place .1 → (showCode (first .cells) (long .cells) t a ≡ 0 → ⊥)
+      → record { place = (memory, offset); cells = [] } ≡ shown first long t a
+  shown-none-at memory offset m o n = ap₂ (λ (x y : ℕ). record { place = (x, y); cells = [] }) m o ∙ shown-none n
 
   module _ (e : showCode (first .cells) (long .cells) t a ≡ 0) where
     pub shown-cell : firstCell (first .cells) t a < pointerBit → part first (blockOf t a) 1 ≡ shown first long t a

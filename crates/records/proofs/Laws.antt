@@ -2,14 +2,33 @@
 -- Assumes nothing.
 use mathlib.Core.Path.{_≡_, _∙_}
 use mathlib.Core.Bool.{true, false, not}
-use mathlib.Core.List.{List, _++_}
-use Prim.Native.Nat.{ℕ, _<_, _≤_}
+use mathlib.Core.List.{List, [], _∷_, _++_}
+use Prim.Native.Nat.{ℕ, suc, _+_, _/_, _%_, _<_, _≤_}
+use native.Mathlib.Numerals.{add-one}
+use native.Mathlib.Omega.{arith}
+use lib.Dec.{eqb}
 use lib.ListN.{length, getD, set, drop}
 use lib.Seq.{sets, sets-eq}
 use borrow.Author.Tests.{eq-eqb, ne-eqb, lt-ltb, le-ltb}
 use Rattle.records.specs.BigEndian.{u16At, split2, split4}
 use Rattle.records.specs.Record.{known, strayHop, encoded, fields, refusal, accepted, judged, readAs, writeAs, Writes}
 use Rattle.records.specs.declared.Update.{Update}
+
+-- the tests of the fields, in their order
+module _ (u : Update) (expected : ℕ) where
+  pub other-kind : not (known (u .kind)) ≡ true → refusal 23 ≡ judged u expected
+  other-kind k = simp k
+
+  module _ (k : not (known (u .kind)) ≡ false) where
+    pub other-serial : not (eqb (u .serial) expected) ≡ true → refusal 24 ≡ judged u expected
+    other-serial s = simp (k, s)
+
+    module _ (s : not (eqb (u .serial) expected) ≡ false) where
+      pub hop-astray : strayHop (u .kind) (u .hop) ≡ true → refusal 25 ≡ judged u expected
+      hop-astray h = simp (k, s, h)
+
+      pub none-refuses : strayHop (u .kind) (u .hop) ≡ false → accepted u ≡ judged u expected
+      none-refuses h = simp (k, s, h)
 
 -- the fields pass their tests
 pub accepts : (u : Update) (expected : ℕ) → not (known (u .kind)) ≡ false → u .serial ≡ expected → strayHop (u .kind) (u .hop) ≡ false → accepted u ≡ judged u expected
@@ -60,6 +79,18 @@ module _ (room : List ℕ) (u : Update) where
       unfolding writeAs
       fills after h e =
           record { code = simp (le-ltb (length room) 15 enough, k, h); room = e ∙ simp (le-ltb (length room) 15 enough, k, h) }
+
+-- a number of four bytes by four stores
+pub four-stored : (room : List ℕ) (at value a b c d : ℕ) → a ≡ value / 16777216 → b ≡ value / 65536 % 256 → c ≡ value / 256 % 256 → d ≡ value % 256
+    → set (set (set (set room at a) (at + 1) b) (at + 2) c) (at + 3) d ≡ sets room at (split4 value)
+four-stored room at value a b c d ea eb ec ed =
+    let e2 : at + 2 ≡ suc (suc at) = omega arith in
+    let e3 : at + 3 ≡ suc (suc (suc at)) = omega arith in simp (ea, eb, ec, ed, add-one, e2, e3)
+
+-- the same of four bytes that are those of the number
+pub by-bytes : (after room : List ℕ) (at value a b c d : ℕ) → after ≡ sets room at (a ∷ b ∷ c ∷ d ∷ [])
+    → a ≡ value / 16777216 → b ≡ value / 65536 % 256 → c ≡ value / 256 % 256 → d ≡ value % 256 → after ≡ sets room at (split4 value)
+by-bytes after room at value a b c d e ea eb ec ed = e ∙ simp (ea, eb, ec, ed)
 
 -- the fields stored one after another, from the first byte on, are the 15 bytes of the update
 pub stored : (u : Update) (room a b c d : List ℕ) → 15 ≤ length room

@@ -1,4 +1,5 @@
 -- `bulk::look_up_all` meets its contract: where both tests pass, the four passes answer each address. Assumes nothing.
+use mathlib.Core.Path.{_≡_}
 use Prim.Native.Nat.{_-_}
 use native.Mathlib.Omega.{arith}
 use lib.ListN.{length}
@@ -22,7 +23,7 @@ returns c =
 returns-2 : tie.Need-returns-2
 returns-2 c =
     let s = c .before .before .before .before .before .before .before .args in
-    refuses (now (s .first)) (now (s .long)) (s .territory) (now (s .addresses)) (now (s .answers)) (λ h. c .if2 .taken (omega (arith, h .1)))
+    refuses (now (s .first)) (now (s .long)) (s .territory) (now (s .addresses)) (now (s .answers)) (λ h. omega (arith, h .1, c .if2 .taken))
 
 -- past the first test, what is lent is right
 may-read : (c : tie.Else1) → let s = c .before .before .before .before .before .before .args in
@@ -30,6 +31,10 @@ may-read : (c : tie.Else1) → let s = c .before .before .before .before .before
 may-read c =
     let s = c .before .before .before .before .before .before .args in
     lent (length (now (s .first))) (length (now (s .long))) (s .territory) (omega arith)
+
+-- past the second test, there is room for an answer to each address
+room-each : (c : tie.Else2) → let s = c .before .before .before .before .before .before .before .args in length (now (s .addresses)) ≡ length (now (s .answers))
+room-each c = omega (arith, c .if2 .left)
 
 cast-blocks : tie.Need-cast-blocks
 cast-blocks c =
@@ -65,9 +70,10 @@ returns-3 c =
     let start = known .before .before .before in
     let s = start .args in
     let l = may-read (passed .before) in
-    answered (now (s .first)) (now (s .long)) (s .territory) (now (s .addresses)) (now (s .answers)) l (passed .if2 .left)
+    let e = room-each passed in
+    answered (now (s .first)) (now (s .long)) (s .territory) (now (s .addresses)) (now (s .answers)) l e
     (passes-all (now (s .first)) (now (s .long)) (s .territory) (now (s .addresses)) (now (s .answers)) l
-    (omega (arith, start .good)) (λ i h. omega (arith, known .shared-slice-known3 .given i)) (passed .if2 .left)
+    (omega (arith, start .good)) (λ i h. omega (arith, known .shared-slice-known3 .given i)) e
     (placing .places .ensures) (fetching .fetch .ensures) (judging .judge-all .ensures) (settling .settle-all .ensures))
 
 pub look-up-all-spec : {M : Type 1} → statement M

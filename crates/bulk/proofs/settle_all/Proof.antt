@@ -1,5 +1,7 @@
 -- `bulk::settle_all` meets its contract. The loop's invariant: the answers before `done` are settled. Assumes nothing.
-use Prim.Native.Nat.{_-_}
+use mathlib.Core.Path.{_≡_, sym, subst}
+use mathlib.Core.List.{List}
+use Prim.Native.Nat.{ℕ, _-_}
 use native.Mathlib.Omega.{arith}
 use lib.ListN.{getD}
 use borrow.Author.Needs.{needs}
@@ -14,8 +16,12 @@ Inv-loop long addresses answers₀ count done₀ answers done = Passed (λ j x. 
 abbrev μ-loop : tie.MeasureT-loop
 μ-loop long addresses answers₀ count done₀ answers done = count - done
 
+-- before the first answer none is settled
+starts : {f : ℕ → ℕ → ℕ} {xs : List ℕ} {k : ℕ} → k ≡ 0 → Passed f xs k xs
+starts {f} {xs} e = subst (λ (k : ℕ). Passed f xs k xs) (sym e) pass-none
+
 loop-holds : tie.Need-loop-holds Inv-loop μ-loop
-loop-holds c = pass-none
+loop-holds c = starts (omega arith)
 
 mul-settle : tie.Need-mul-settle Inv-loop μ-loop
 mul-settle c = search needs

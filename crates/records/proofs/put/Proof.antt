@@ -2,10 +2,10 @@
 -- another are the bytes of the update. Assumes nothing.
 use Prim.Native.Nat.{_≤_}
 use native.Mathlib.Omega.{arith}
-use lib.ListN.{length, length-set}
+use lib.ListN.{length, length-set, set}
 use denote.Ref.{now}
 use borrow.Author.Needs.{needs}
-use Rattle.records.proofs.Laws.{stored}
+use Rattle.records.proofs.Laws.{by-bytes, stored}
 use Rattle.records.proofs.put.Statement.{statement}
 use Rattle.records.proofs.put.Tie as tie
 
@@ -57,7 +57,13 @@ same-length c =
 returns : tie.Need-returns
 returns c =
     let s = length-call c .before .before .before in
-    stored (s .args .update) (now (s .args .room)) _ _ _ _ (s .pre) (length-call c .put-u16 .ensures) (serial-call c .put-u32 .ensures) (address-call c .put-u322 .ensures) (hop-call c .put-u162 .ensures)
+    let u = s .args .update in
+    let started = set (set (length-call c .put-u16 .last .0) 2 1) 3 (u .kind) in
+    let serial = by-bytes (serial-call c .put-u32 .last .0) started 4 (u .serial) _ _ _ _ (serial-call c .put-u32 .ensures)
+    (omega arith) (omega arith) (omega arith) (omega arith) in
+    let address = by-bytes (address-call c .put-u322 .last .0) (serial-call c .put-u32 .last .0) 8 (u .address) _ _ _ _ (address-call c .put-u322 .ensures)
+    (omega arith) (omega arith) (omega arith) (omega arith) in
+    stored u (now (s .args .room)) _ _ _ _ (s .pre) (length-call c .put-u16 .ensures) serial address (hop-call c .put-u162 .ensures)
 
 pub put-spec : {M : Type 1} → statement M
 put-spec =

@@ -51,8 +51,11 @@ agree-requires c κs =
 returns-2 : tie.Need-returns-2
 returns-2 c =
     let s = c .before .before .before .before .before .before .args in
-    by-word (s .rules .now) (s .address) (s .i) (c .before .before .address .result) (c .before .length .result)
-    (c .before .before .before .before .if1 .left) (c .before .before .address .ensures) (c .before .length .ensures) (c .agree .ensures)
+    let last = prefixOf (lastOf (s .rules .now) (s .i)) in
+    let some : ¬ (s .i ≡ 0) = omega (arith, c .before .before .before .before .if1 .left) in
+    let start : c .before .before .address .result ≡ last .address = omega (arith, c .before .before .address .ensures) in
+    let bits : c .before .length .result ≡ last .length = omega (arith, c .before .length .ensures) in
+    by-word (s .rules .now) (s .address) (s .i) (c .before .before .address .result) (c .before .length .result) some start bits (c .agree .ensures)
 
 pub is-settled-spec : {M : Type 1} → statement M
 is-settled-spec =

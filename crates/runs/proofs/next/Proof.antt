@@ -1,5 +1,6 @@
 -- `runs::next` meets its contract: the words up to the address start at it or before, and the first after them is the next to start.
 -- Assumes nothing.
+use mathlib.Core.Path.{_≡_}
 use native.Mathlib.Omega.{arith}
 use borrow.Author.Needs.{needs}
 use Rattle.rules.proofs.Indices.{listed-within}
@@ -10,7 +11,8 @@ use Rattle.runs.proofs.next.Tie as tie
 returns : tie.Need-returns
 returns c =
     let s = c .before .before in
-    next-none (s .args .address) (s .pre .0) (s .pre .1) (c .if1 .taken) (s .fits .address .fits)
+    let none : s .args .first ≡ s .args .live = omega (arith, c .if1 .taken) in
+    next-none (s .args .address) (s .pre .0) (s .pre .1) none (s .fits .address .fits)
 
 mul-address : tie.Need-mul-address
 mul-address c = omega (arith, listed-within (c .before .before .pre .0), c .before .before .pre .1 .within)
@@ -27,7 +29,7 @@ cast-result c = search needs
 returns-2 : tie.Need-returns-2
 returns-2 c =
     let s = c .before .before .before .before in
-    next-some (s .args .address) (s .pre .0) (s .pre .1) (omega arith) (omega (arith, c .address .ok, c .address .ensures)) (c .address .ensures)
+    next-some (s .args .address) (s .pre .0) (s .pre .1) (omega arith) (omega (arith, c .address .ok, c .address .ensures)) (omega (arith, c .address .ensures))
 
 pub next-spec : {M : Type 1} → statement M
 next-spec =

@@ -1,7 +1,10 @@
 -- `look::says` meets its contract: a law of `Answers` for each way out. Assumes nothing.
 use mathlib.Core.Path.{sym, ap, _∙_}
+use Prim.Native.Nat.{_/_, _<_}
 use native.Mathlib.Omega.{arith}
+use lib.ListN.{length}
 use denote.Ref.{now}
+use Rattle.cells.specs.Cells.{segmentOf}
 use Rattle.cells.specs.Lookup.{packed}
 use Rattle.cells.proofs.Answers.{decides, hands-on, not-lent}
 use borrow.Author.Needs.{needs}
@@ -26,6 +29,10 @@ returns-2 c =
     let s = c .before .before .before .args in
     sym (ap packed (not-lent (now (s .long)) (s .low) (s .cell) (omega arith) (omega arith)))
 
+-- past the second test, the segment is lent
+lent : (c : tie.Else2) → let s = c .before .before .before .args in segmentOf (s .cell) < length (now (s .long)) / 256
+lent c = omega (arith, c .if2 .left)
+
 mul-verdict : tie.Need-mul-verdict
 mul-verdict c = search needs
 
@@ -36,7 +43,7 @@ mul-verdict-2 : tie.Need-mul-verdict-2
 mul-verdict-2 c = search needs
 
 shared-slice-read-verdict : tie.Need-shared-slice-read-verdict
-shared-slice-read-verdict c = search needs
+shared-slice-read-verdict c = omega (arith, lent (c .before))
 
 verdict-requires-2 : tie.Need-verdict-requires-2
 verdict-requires-2 c κs = search needs
@@ -45,7 +52,7 @@ returns-3 : tie.Need-returns-3
 returns-3 c =
     let s = c .before .before .before .before .before .args in
     c .verdict2 .ensures
-    ∙ sym (ap packed (hands-on (now (s .long)) (s .low) (s .cell) (omega arith) (omega arith)))
+    ∙ sym (ap packed (hands-on (now (s .long)) (s .low) (s .cell) (omega arith) (lent (c .before .before))))
 
 pub says-spec : {M : Type 1} → statement M
 says-spec =

@@ -1,6 +1,6 @@
 -- `show::show_cells` meets its contract: where `show_code` answers 0 the first cell is there, and so is the segment that it points to.
 -- Assumes nothing.
-use mathlib.Core.Path.{_≡_, sym, _∙_}
+use mathlib.Core.Path.{_≡_, _∙_}
 use Prim.Native.Nat.{_*_, _^_, _<_}
 use native.Mathlib.Omega.{arith}
 use denote.Ref.{now}
@@ -8,7 +8,7 @@ use Rattle.cells.specs.Cells.{segmentOf}
 use Rattle.cells.specs.Lookup.{blockOf}
 use Rattle.cells.specs.Show.{firstCell, showCode, seen}
 use Rattle.cells.proofs.Reading.{past-base, block-lent}
-use Rattle.cells.proofs.Showing.{Shows, shows, segment-lent, shown-none, shown-cell, shown-segment, part-on}
+use Rattle.cells.proofs.Showing.{Shows, shows, segment-lent, shown-none-at, shown-cell, shown-segment, part-on}
 use borrow.Author.Needs.{needs}
 use Rattle.cells.proofs.show.show_cells.Statement.{statement}
 use Rattle.cells.proofs.show.show_cells.Tie as tie
@@ -22,11 +22,12 @@ slice-aggregate-result c = search needs
 returns : tie.Need-returns
 returns c =
     let s = c .before .before .before .before .before .args in
-    shown-none (seen (s .first)) (seen (s .long)) (s .territory) (s .address) (λ e. c .before .if1 .taken (c .before .before .show-code .ensures ∙ e))
+    let refused : ¬ (showCode (now (s .first)) (now (s .long)) (s .territory) (s .address) ≡ 0) = omega (arith, c .before .if1 .taken, c .before .before .show-code .ensures) in
+    shown-none-at (seen (s .first)) (seen (s .long)) (s .territory) (s .address) _ _ (omega arith) (omega arith) refused
 
 -- past the first test, there is a part to show
 zero : (c : tie.Else1) → let s = c .before .before .before .before .args in showCode (now (s .first)) (now (s .long)) (s .territory) (s .address) ≡ 0
-zero c = sym (c .before .show-code .ensures) ∙ c .if1 .left
+zero c = omega (arith, c .before .show-code .ensures, c .if1 .left)
 
 may-show : (c : tie.Else1) → let s = c .before .before .before .before .args in Shows (now (s .first)) (now (s .long)) (s .territory) (s .address)
 may-show c =

@@ -1,13 +1,15 @@
 -- `show::show_code` meets its contract: where `standing` answers 0 the first cell is there, and it is refused exactly if it points astray.
 -- Assumes nothing.
-use mathlib.Core.Path.{sym, _∙_}
+use mathlib.Core.Path.{_≡_, sym, _∙_}
+use Prim.Native.Nat.{_/_, _<_}
 use native.Mathlib.Omega.{arith}
 use lib.ListN.{length}
 use denote.Ref.{now}
 use Rattle.ground.proofs.Tests.{cond-on, cond-off}
+use Rattle.cells.specs.Cells.{segmentOf}
 use Rattle.cells.specs.Lookup.{blockOf}
-use Rattle.cells.specs.Show.{showCode}
-use Rattle.cells.proofs.Reading.{Stands, stands, past-base, block-lent, goes-on, stops-at}
+use Rattle.cells.specs.Show.{firstCell, showCode}
+use Rattle.cells.proofs.Reading.{Stands, stands, small-standing, past-base, block-lent, goes-on, stops-at}
 use Rattle.cells.proofs.Showing.{astray?}
 use borrow.Author.Needs.{needs}
 use Rattle.cells.proofs.show.show_code.Statement.{statement}
@@ -20,15 +22,18 @@ returns : tie.Need-returns
 unfolding showCode
 returns c =
     let s = c .before .before .before .before .args in
+    let refused-at : ¬ (c .before .standing .result ≡ 0) = omega (arith, c .if1 .taken) in
     stops-at (λ n. n) (length (now (s .first))) (length (now (s .long))) (s .territory) (s .address) _
-    (c .before .standing .result) (c .before .standing .ensures) (c .if1 .taken)
+    (c .before .standing .result) (c .before .standing .ensures) refused-at
 
 -- past the first test, the call may read
 may-read : (c : tie.Else1) → let s = c .before .before .before .before .args in
     Stands (length (now (s .first))) (length (now (s .long))) (s .territory) (s .address)
 may-read c =
     let s = c .before .before .before .before .args in
-    stands (length (now (s .first))) (length (now (s .long))) (s .territory) (s .address) (sym (c .before .standing .ensures) ∙ c .if1 .left)
+    let small = small-standing (length (now (s .first))) (length (now (s .long))) (s .territory) (s .address) in
+    let zero : c .before .standing .result ≡ 0 = omega (arith, c .before .standing .ensures, c .if1 .left) in
+    stands (length (now (s .first))) (length (now (s .long))) (s .territory) (s .address) (sym (c .before .standing .ensures) ∙ zero)
 
 sub-cell : tie.Need-sub-cell
 sub-cell c = past-base (may-read (c .before))
@@ -65,6 +70,7 @@ returns-4 : tie.Need-returns-4
 unfolding showCode
 returns-4 c =
     let s = c .before .before .before .before .before .before .before .before .args in
+    let lent : segmentOf (firstCell (now (s .first)) (s .territory) (s .address)) < length (now (s .long)) / 256 = omega (arith, c .if3 .left) in
     sym (cond-off 4 0 (astray? (now (s .first)) (now (s .long)) (s .territory) (s .address)) (λ h. omega (arith, h .not-lent)))
     ∙ goes-on (λ n. n) (length (now (s .first))) (length (now (s .long))) (s .territory) (s .address) _ (may-read (c .before .before .before .before))
 

@@ -1,10 +1,9 @@
 -- `records::big_endian::put_u32` meets its contract: four stores are the run of stores. Assumes nothing.
-use mathlib.Core.Path.{_≡_}
-use Prim.Native.Nat.{suc, _+_}
-use native.Mathlib.Numerals.{add-one}
 use native.Mathlib.Omega.{arith}
 use lib.ListN.{length-set}
+use denote.Ref.{now}
 use borrow.Author.Needs.{needs}
+use Rattle.records.proofs.Laws.{four-stored}
 use Rattle.records.proofs.big_endian.put_u32.Statement.{statement}
 use Rattle.records.proofs.big_endian.put_u32.Tie as tie
 
@@ -46,8 +45,8 @@ same-length c = search needs
 
 returns : tie.Need-returns
 returns c =
-    let e2 : c .args .at + 2 ≡ suc (suc (c .args .at)) = omega arith in
-    let e3 : c .args .at + 3 ≡ suc (suc (suc (c .args .at))) = omega arith in simp (add-one, e2, e3)
+    let s = c .args in
+    four-stored (now (s .room)) (s .at) (s .value) _ _ _ _ (omega arith) (omega arith) (omega arith) (omega arith)
 
 pub put-u32-spec : {M : Type 1} → statement M
 put-u32-spec =

@@ -1,6 +1,9 @@
 -- `list::insert_at` meets its contract. The invariant is `Raised`: the words from i on have moved up. The measure is i. Assumes nothing.
+use mathlib.Core.Path.{_≡_, sym, subst}
+use mathlib.Core.List.{List}
+use Prim.Native.Nat.{ℕ}
 use native.Mathlib.Omega.{arith}
-use lib.ListN.{length-set}
+use lib.ListN.{length-set, set}
 use borrow.Author.Needs.{needs}
 use Rattle.rules.proofs.Shifts.{Raised, raised-none, raised-more, raised-put}
 use Rattle.rules.proofs.list.insert_at.Statement.{statement}
@@ -36,8 +39,14 @@ sub-i c = search needs
 loop-less : tie.Need-loop-less Inv-loop μ-loop
 loop-less c = search needs
 
+-- the same by a store at an equal place
+stored-at : {ws : List ℕ} {n a j : ℕ} (vs : List ℕ) (i v k : ℕ) → Raised ws n a (set vs i v) j → k ≡ i → Raised ws n a (set vs k v) j
+stored-at {ws} {n} {a} {j} vs i v k r h = subst (λ (m : ℕ). Raised ws n a (set vs m v) j) (sym h) r
+
 loop-again : tie.Need-loop-again Inv-loop μ-loop
-loop-again c = raised-more (c .before .before .loop .inv) _ (omega arith) (omega arith) (c .before .before .before .pre .1)
+loop-again c =
+    let at = c .before .before .loop in
+    stored-at (at .rules) (at .i) _ _ (raised-more (at .inv) _ (omega arith) (omega arith) (c .before .before .before .pre .1)) (omega arith)
 
 mul-rules-2 : tie.Need-mul-rules-2 Inv-loop μ-loop
 mul-rules-2 c = search needs

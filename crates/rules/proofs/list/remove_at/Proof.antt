@@ -1,7 +1,9 @@
 -- `list::remove_at` meets its contract. The invariant is `Lowered`: the words after `at`, up to i, have moved down. Assumes nothing.
-use Prim.Native.Nat.{_-_}
+use mathlib.Core.Path.{_≡_, sym, subst}
+use mathlib.Core.List.{List}
+use Prim.Native.Nat.{ℕ, _-_}
 use native.Mathlib.Omega.{arith}
-use lib.ListN.{length-set}
+use lib.ListN.{length-set, set}
 use borrow.Author.Needs.{needs}
 use Rattle.rules.proofs.Shifts.{Lowered, lowered-none, lowered-more, lowered-end}
 use Rattle.rules.proofs.list.remove_at.Statement.{statement}
@@ -52,8 +54,14 @@ slice-write-rules-2 c = search needs
 same-length : tie.Need-same-length Inv-loop μ-loop
 same-length c = simp length-set (c .before .loop .inv .long)
 
+-- the same list by a store at an equal place
+stored-at : (vs ws : List ℕ) (i j : ℕ) → set vs i 0 ≡ ws → j ≡ i → set vs j 0 ≡ ws
+stored-at vs ws i j e h = subst (λ (k : ℕ). set vs k 0 ≡ ws) (sym h) e
+
 returns : tie.Need-returns Inv-loop μ-loop
-returns c = lowered-end (c .before .loop .inv) (c .before .before .pre .1) (omega arith)
+returns c =
+    let at = c .before .loop in
+    stored-at (at .rules) _ (at .i) _ (lowered-end (at .inv) (c .before .before .pre .1) (omega arith)) (omega arith)
 
 pub remove-at-spec : {M : Type 1} → statement M
 remove-at-spec =
