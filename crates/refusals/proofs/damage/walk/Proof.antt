@@ -107,8 +107,8 @@ loop-again c =
     let l = c .before .before .before .before .before .before .before .before .loop in
     let k = c .before .before .before .before .before .before .stretch .result in
     let opened = c .before .before .pass .result .opened in (
-      walked-on (s .pre .listed) (s .pre .aligned) (l .inv .0) (c .before .before .before .before .before .before .stretch .ensures) (c .before .before .pass .ensures) (omega arith)
-          (clean (c .before .before .before .before))
+      walked-on (s .pre .listed) (s .pre .aligned) (l .inv .0) (c .before .before .before .before .before .before .stretch .ensures) (c .before .before .pass .ensures)
+          (omega arith) (clean (c .before .before .before .before))
           (if-so (soundBy? (a .first .now) (a .long .now) (a .owners .now) (l .block + k) opened) (c .before .block-sound .ensures) (c .if3 .left)),
       search needs,
     )
