@@ -1,5 +1,5 @@
 -- Every history keeps the invariant, with the live list that is read off it. Assumes nothing.
-use mathlib.Core.Path.{_≡_, refl, sym, ap, subst, _∙_}
+use mathlib.Core.Path.{_≡_, sym, ap, subst, _∙_}
 use mathlib.Core.Bool.{Bool, true, false, cond, not, _&&_, true≢false}
 use mathlib.Core.List.{List}
 use Prim.Native.Nat.{ℕ}
@@ -120,12 +120,12 @@ inv-history t m l start = inv-start t m l
 inv-history t m l (h then announces r) =
     let I = inv-history t m l h in
     stepped t (live t m h) (with-route r (live t m h)) _ _ (memory t m h) (announced t r (memory t m h)) (announceCode t (memory t m h) r) I
-    (λ e. announce-step t (live t m h) (memory t m h) I r (announces-of t (live t m h) (memory t m h) I r e)) refl refl
+    (λ e. announce-step t (live t m h) (memory t m h) I r (announces-of t (live t m h) (memory t m h) I r e)) (cc) (cc)
 inv-history t m l (h then withdraws p) =
     let I = inv-history t m l h in
     stepped t (live t m h) (without p (live t m h)) _ _ (memory t m h) (withdrawn t p (memory t m h)) (withdrawCode t (memory t m h) p) I
-    (λ e. withdraw-step t (live t m h) (memory t m h) I p (withdraws-of t (live t m h) (memory t m h) I p e)) refl refl
+    (λ e. withdraw-step t (live t m h) (memory t m h) I p (withdraws-of t (live t m h) (memory t m h) I p e)) (cc) (cc)
 inv-history t m l (h then re-homes r) =
     let I = inv-history t m l h in
     stepped t (live t m h) (with-route r (live t m h)) _ _ (memory t m h) (announced t r (memory t m h)) (reHomeCode t (memory t m h) r) I
-    (λ e. announce-step t (live t m h) (memory t m h) I r (re-homes-of t (live t m h) (memory t m h) I r e)) refl refl
+    (λ e. announce-step t (live t m h) (memory t m h) I r (re-homes-of t (live t m h) (memory t m h) I r e)) (cc) (cc)
