@@ -33,10 +33,10 @@ block-most false true rs vs a = omega (arith, sum-most (λ i. no-route) (λ i. b
 block-most true false rs vs a = omega (arith, sum-most (λ i. no-route) (λ i. best rs (a + i)))
 
 -- a block that is as open as it was: 1, and 255 more if it is open
-block-same : (x : Bool) (rs vs : List Route) (a : ℕ) → blockPrice x x rs vs a ≤ 1 + cond x 255 0
+block-same : (x : Bool) (rs vs : List Route) (a more : ℕ) → 255 ≤ more → blockPrice x x rs vs a ≤ 1 + cond x more 0
 unfolding blockPrice
-block-same false rs vs a = omega (arith, differ-most (best rs a) (best vs a))
-block-same true rs vs a = omega (arith, sum-most (λ i. best rs (a + i)) (λ i. best vs (a + i)))
+block-same false rs vs a more h = omega (arith, differ-most (best rs a) (best vs a))
+block-same true rs vs a more h = omega (arith, sum-most (λ i. best rs (a + i)) (λ i. best vs (a + i)))
 
 -- ---- the blocks that a prefix touches
 
@@ -73,12 +73,12 @@ module _ (t p : Prefix) (h : Territory t) (w : WellFormed p) (e : Encloses t p) 
         let d = ap (λ (n : ℕ). n * 257) one in
         omega (arith, price-touched)
 
-    pub short-bound : p .length ≤ 24 → price t rs vs ≤ sum (blocks p) (λ i. 1 + cond (isOpen rs (blockStart t (b + i))) 255 0)
+    pub short-bound : (more : ℕ) → 255 ≤ more → p .length ≤ 24 → price t rs vs ≤ sum (blocks p) (λ i. 1 + cond (isOpen rs (blockStart t (b + i))) more 0)
     unfolding cost
-    short-bound s =
-        subst (λ (x : ℕ). x ≤ sum (blocks p) (λ i. 1 + cond (isOpen rs (blockStart t (b + i))) 255 0)) (sym price-touched)
+    short-bound more m s =
+        subst (λ (x : ℕ). x ≤ sum (blocks p) (λ i. 1 + cond (isOpen rs (blockStart t (b + i))) more 0)) (sym price-touched)
         (sum-le (blocks p) _ _ (λ i l.
         let a = blockStart t (b + i) in
-        subst (λ (y : Bool). blockPrice (isOpen rs a) y rs vs a ≤ 1 + cond (isOpen rs a) 255 0)
+        subst (λ (y : Bool). blockPrice (isOpen rs a) y rs vs a ≤ 1 + cond (isOpen rs a) more 0)
         (sym (as-open (b + i) (λ o. let q = o .long in omega arith)))
-        (block-same (isOpen rs a) rs vs a)))
+        (block-same (isOpen rs a) rs vs a more m)))

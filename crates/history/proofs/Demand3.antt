@@ -59,8 +59,8 @@ module _ (t : Prefix) (r : Route) (rs : List Route) (m : Lent) (I : Inv t rs m) 
   announce-costs = record {
     differing = refl;
     priced = announced-price;
-    long = λ l. subst (λ (x : ℕ). x ≤ 257) (sym announced-price) (long-bound t (r .prefix) (I .territory) (A .route .formed) (A .inside) rs (with-route r rs) local as-open l);
-    short = λ s. subst (λ (x : ℕ). x ≤ shortMost t (r .prefix) rs) (sym announced-price) (short-bound t (r .prefix) (I .territory) (A .route .formed) (A .inside) rs (with-route r rs) local as-open s);
+    long = λ l. omega (arith, announced-price, long-bound t (r .prefix) (I .territory) (A .route .formed) (A .inside) rs (with-route r rs) local as-open l);
+    short = λ s. subst (λ (x : ℕ). x ≤ shortMost t (r .prefix) rs) (sym announced-price) (short-bound t (r .prefix) (I .territory) (A .route .formed) (A .inside) rs (with-route r rs) local as-open _ (omega arith) s);
   }
     where
       local : (a : ℕ) → ¬ Contains (r .prefix) a → best rs a ≡ best (with-route r rs) a
@@ -98,8 +98,8 @@ module _ (t p : Prefix) (rs : List Route) (m : Lent) (I : Inv t rs m) (W : Withd
   withdraw-costs = record {
     differing = refl;
     priced = withdrawn-price;
-    long = λ l. subst (λ (x : ℕ). x ≤ 257) (sym withdrawn-price) (long-bound t p (I .territory) (W .formed) (W .inside) rs (without p rs) local as-open l);
-    short = λ s. subst (λ (x : ℕ). x ≤ shortMost t p rs) (sym withdrawn-price) (short-bound t p (I .territory) (W .formed) (W .inside) rs (without p rs) local as-open s);
+    long = λ l. omega (arith, withdrawn-price, long-bound t p (I .territory) (W .formed) (W .inside) rs (without p rs) local as-open l);
+    short = λ s. subst (λ (x : ℕ). x ≤ shortMost t p rs) (sym withdrawn-price) (short-bound t p (I .territory) (W .formed) (W .inside) rs (without p rs) local as-open _ (omega arith) s);
   }
     where
       local : (a : ℕ) → ¬ Contains p a → best rs a ≡ best (without p rs) a

@@ -27,15 +27,15 @@ use Rattle.cells.proofs.Spans.{opens-own}
 use Rattle.history.specs.History.{announces, withdraws, re-homes, History, start, _then_, memory, report, isAccepted, live}
 use Rattle.history.proofs.Invariant.{Inv, inv-start, live-routes, announce-keeps, withdraw-keeps}
 
--- a call that is accepted keeps the invariant with the changed list, and one that is refused with the same
-stepped : (t : Prefix) (rs rs' : List Route) (m n : Lent) (code : ℕ) → Inv t rs m → (code ≡ 0 → Inv t rs' n)
-    → Inv t (cond (eqb (outcome code m n .report .code) 0) rs' rs) (outcome code m n .lent)
-stepped t rs rs' m n code I keeps = go (eqb code 0) (eqb? code 0)
+-- a call that is accepted keeps the invariant with the changed list, and one that is refused with the same: us and vs are live after it
+stepped : (t : Prefix) (rs rs' us vs : List Route) (m n : Lent) (code : ℕ) → Inv t rs m → (code ≡ 0 → Inv t rs' n) → us ≡ rs' → vs ≡ rs
+    → Inv t (cond (eqb (outcome code m n .report .code) 0) us vs) (outcome code m n .lent)
+stepped t rs rs' us vs m n code I keeps changed same = go (eqb code 0) (eqb? code 0)
   where
     go : (x : Bool) → Decides (code ≡ 0) x
-        → Inv t (cond (eqb (cond x (accepted m n) (refused code m) .report .code) 0) rs' rs) (cond x (accepted m n) (refused code m) .lent)
-    go x (holds z) = keeps z
-    go x (fails f) = rw (stops (eqb? code 0) f) I
+        → Inv t (cond (eqb (cond x (accepted m n) (refused code m) .report .code) 0) us vs) (cond x (accepted m n) (refused code m) .lent)
+    go x (holds z) = rw changed (keeps z)
+    go x (fails f) = rw (stops (eqb? code 0) f, same) I
 
 -- a live prefix longer than 24 has its segment
 live-open : (t : Prefix) (rs : List Route) (m : Lent) → Inv t rs m → (p : Prefix) → Encloses t p → IsLive p rs → needsSegment t m p ≡ true → ⊥
@@ -126,13 +126,13 @@ unfolding memory live isAccepted report announce withdraw reHome
 inv-history t m l start = subst (Inv t []) (sym (clear-lent t m l)) (inv-start t m l)
 inv-history t m l (h then announces r) =
     let I = inv-history t m l h in
-    stepped t (live t m h) (with-route r (live t m h)) (memory t m h) (announced t r (memory t m h)) (announceCode t (memory t m h) r) I
-    (λ e. announce-step t (live t m h) (memory t m h) I r (announces-of t (live t m h) (memory t m h) I r e))
+    stepped t (live t m h) (with-route r (live t m h)) _ _ (memory t m h) (announced t r (memory t m h)) (announceCode t (memory t m h) r) I
+    (λ e. announce-step t (live t m h) (memory t m h) I r (announces-of t (live t m h) (memory t m h) I r e)) (cc) (cc)
 inv-history t m l (h then withdraws p) =
     let I = inv-history t m l h in
-    stepped t (live t m h) (without p (live t m h)) (memory t m h) (withdrawn t p (memory t m h)) (withdrawCode t (memory t m h) p) I
-    (λ e. withdraw-step t (live t m h) (memory t m h) I p (withdraws-of t (live t m h) (memory t m h) I p e))
+    stepped t (live t m h) (without p (live t m h)) _ _ (memory t m h) (withdrawn t p (memory t m h)) (withdrawCode t (memory t m h) p) I
+    (λ e. withdraw-step t (live t m h) (memory t m h) I p (withdraws-of t (live t m h) (memory t m h) I p e)) (cc) (cc)
 inv-history t m l (h then re-homes r) =
     let I = inv-history t m l h in
-    stepped t (live t m h) (with-route r (live t m h)) (memory t m h) (announced t r (memory t m h)) (reHomeCode t (memory t m h) r) I
-    (λ e. announce-step t (live t m h) (memory t m h) I r (re-homes-of t (live t m h) (memory t m h) I r e))
+    stepped t (live t m h) (with-route r (live t m h)) _ _ (memory t m h) (announced t r (memory t m h)) (reHomeCode t (memory t m h) r) I
+    (λ e. announce-step t (live t m h) (memory t m h) I r (re-homes-of t (live t m h) (memory t m h) I r e)) (cc) (cc)

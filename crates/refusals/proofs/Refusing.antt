@@ -98,10 +98,11 @@ block-lent k =
 -- ---- what an update is told
 
 module _ {ws : List ℕ} {p : Prefix} where
-  pub refused-is : {code answer : ℕ} {r : Checked} → r ≡ refusedBy code → ¬ (code ≡ 0) → code ≡ answer → CheckedIs ws p answer r
-  refused-is {answer = answer} e n a =
+  -- the code is the number at which the tests stop
+  pub refused-is : {code number answer : ℕ} {r : Checked} → r ≡ refusedBy code → number ≡ answer → code ≡ number → ¬ (code ≡ 0) → CheckedIs ws p answer r
+  refused-is {answer = answer} e a c n =
       subst (CheckedIs ws p answer) (sym e)
-      (record { number = a; listed = λ z. absurd (n z); place = λ z. absurd (n z); refused = λ _. refl })
+      (record { number = c ∙ a; listed = λ z. absurd (n z); place = λ z. absurd (n z); refused = λ _. refl })
 
   pub checked-as : {r : Checked} {a b : ℕ} → a ≡ b → CheckedIs ws p a r → CheckedIs ws p b r
   checked-as {r} e = subst (λ (x : ℕ). CheckedIs ws p x r) e

@@ -198,9 +198,10 @@ module _ {base : ℕ} {first long owners ws : List ℕ} {n from block at left k 
     pub sound-here : SoundAt base first long owners (routes ws) (block + k) → SoundBy first long owners (block + k) opened
     sound-here b = subst (SoundBy first long owners (block + k)) (sym opened-is) b
 
-    pub walked-on : CleanRun 24 first block k → SoundBy first long owners (block + k) opened
-        → Walked base first long owners ws n from (block + k + 1) next
-    walked-on clean b = record {
+    -- the walk goes on with the block after that one
+    pub walked-on : {on : ℕ} → on ≡ block + k + 1 → CleanRun 24 first block k → SoundBy first long owners (block + k) opened
+        → Walked base first long owners ws n from on next
+    walked-on e clean b = record {
       forward = omega (arith, w .forward);
       reached = subst (λ (a : ℕ). Reached ws n a next) (omega arith) (p .reached);
       sound = λ j l m. by-lt j (block + k) (sound-run clean j l) (λ past.

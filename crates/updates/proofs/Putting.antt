@@ -179,12 +179,13 @@ opened-rules t p m = go (needsSegment t m p)
     go true = refl
     go false = refl
 
-pub put-meets : (t : Prefix) (r : Route) (m : Lent) {f l o u : List ℕ} {c : ℕ} → RoutePainted t r m f l o c
-    → u ≡ wordsOf (length (m .rules)) (with-route r (routes (m .rules)))
-    → Meets (accepted m (announced t r m)) (record { code = 0; cells = c }) f l o u
+-- the count is that of the painting
+pub put-meets : (t : Prefix) (r : Route) (m : Lent) {f l o u : List ℕ} {c cells : ℕ} → RoutePainted t r m f l o c
+    → u ≡ wordsOf (length (m .rules)) (with-route r (routes (m .rules))) → cells ≡ c
+    → Meets (accepted m (announced t r m)) (record { code = 0; cells = cells }) f l o u
 unfolding announced listing repainted
-put-meets t r m {f} {l} {o} {u} {c} R e =
-    let count : c ≡ changed m (announced t r m) = R .count ∙ ap₂ (λ (x y : List ℕ). differing (m .first) x + differing (m .long) y) (R .first) (R .long) in
+put-meets t r m {f} {l} {o} {u} {c} {cells} R e n =
+    let count : cells ≡ changed m (announced t r m) = n ∙ R .count ∙ ap₂ (λ (x y : List ℕ). differing (m .first) x + differing (m .long) y) (R .first) (R .long) in
     record {
       report = λ i. record { code = 0; cells = count i };
       first = R .first;

@@ -141,14 +141,15 @@ module _ {t p : Prefix} (m : Lent) {live-count at : ℕ} {found : Bool} (T : Tak
       omega arith in
       subst (λ (x : List ℕ). Listed x n) (sym e) (subst (Listed (wordsOf (length (m .rules)) left)) (sym c) L)
 
-  pub take-meets : {f l o u : List ℕ} {c : ℕ} {rs : List Route} → rs ≡ left → Unpainted t p rs (memory (m .first) (m .long) (m .owners) u) f l o c
-      → u ≡ wordsOf (length (m .rules)) left
-      → Meets (accepted m (withdrawn t p m)) (record { code = 0; cells = c }) f l o u
+  -- the count is that of the repainting, or closing
+  pub take-meets : {f l o u : List ℕ} {c cells : ℕ} {rs : List Route} → rs ≡ left → Unpainted t p rs (memory (m .first) (m .long) (m .owners) u) f l o c
+      → u ≡ wordsOf (length (m .rules)) left → cells ≡ c
+      → Meets (accepted m (withdrawn t p m)) (record { code = 0; cells = cells }) f l o u
   unfolding withdrawn listing repainted
-  take-meets {f} {l} {o} {u} {c} {rs} e R q =
+  take-meets {f} {l} {o} {u} {c} {cells} {rs} e R q n =
       let U : Unpainted t p left m f l o c =
       other-rules t p left u (m .rules) (subst (λ (x : List Route). Unpainted t p x (memory (m .first) (m .long) (m .owners) u) f l o c) e R) in
-      let count : c ≡ changed m (withdrawn t p m) = U .count ∙ ap₂ (λ (x y : List ℕ). differing (m .first) x + differing (m .long) y) (U .first) (U .long) in
+      let count : cells ≡ changed m (withdrawn t p m) = n ∙ U .count ∙ ap₂ (λ (x y : List ℕ). differing (m .first) x + differing (m .long) y) (U .first) (U .long) in
       record {
         report = λ i. record { code = 0; cells = count i };
         first = U .first;
@@ -156,6 +157,10 @@ module _ {t p : Prefix} (m : Lent) {live-count at : ℕ} {found : Bool} (T : Tak
         owners = U .owners;
         rules = q ∙ ap (λ (x : List ℕ). wordsOf (length x) left) (sym (closed-rules t p left (repainted t p (unpaintCell (p .length) left) m)));
       }
+
+-- the place at which the prefix was found
+pub placed : {ws : List ℕ} {n at i : ℕ} {p : Prefix} {found : Bool} → PlaceIs ws n p at found → i ≡ at → PlaceIs ws n p i found
+placed {ws} {n} {at} {i} {p} {found} P e = subst (λ (x : ℕ). PlaceIs ws n p x found) (sym e) P
 
 -- ---- the block of the prefix
 

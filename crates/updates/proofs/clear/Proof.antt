@@ -1,8 +1,9 @@
 -- `clear` meets its contract: a refusal writes nothing, and else each slice is set to 0. Assumes nothing.
-use mathlib.Core.Path.{sym, _∙_}
+use mathlib.Core.Path.{_≡_, sym, _∙_}
 use Rattle.refusals.specs.Memory.{Lent, memory}
 use Rattle.updates.specs.Effects.{cleared}
 use Rattle.updates.proofs.Outcomes.{clear-refused, clear-accepted}
+use native.Mathlib.Omega.{arith}
 use borrow.Author.Needs.{needs}
 use Rattle.updates.proofs.clear.Statement.{statement}
 use Rattle.updates.proofs.clear.Tie as tie
@@ -30,7 +31,11 @@ same-length-4 : tie.Need-same-length-4
 same-length-4 c = search needs
 
 returns : tie.Need-returns
-returns c = let k = c .before in let s = start k in clear-refused (s .args .territory) (at-entry s) (k .clear-checked .ensures) (c .if1 .taken)
+returns c =
+    let k = c .before in
+    let s = start k in
+    let refused : ¬ (k .clear-checked .result ≡ 0) = omega (arith, c .if1 .taken) in
+    clear-refused (s .args .territory) (at-entry s) (k .clear-checked .ensures) refused
 
 zero-cells-requires : tie.Need-zero-cells-requires
 zero-cells-requires c κs = search needs
@@ -65,8 +70,9 @@ returns-2 c =
     let first = long .before .before .before .before in
     let k = first .before .before .before in
     let s = start k in
-    clear-accepted (s .args .territory) (at-entry s) (sym (k .clear-checked .ensures) ∙ first .before .before .if1 .left)
-    (first .zero-cells .ensures) (long .zero-cells2 .ensures) (owners .zero-cells3 .ensures) (rules .zero-words .ensures)
+    let zero : k .clear-checked .result ≡ 0 = omega (arith, first .before .before .if1 .left) in
+    clear-accepted (s .args .territory) (at-entry s) (sym (k .clear-checked .ensures) ∙ zero)
+    (cc (first .zero-cells .ensures)) (cc (long .zero-cells2 .ensures)) (cc (owners .zero-cells3 .ensures)) (cc (rules .zero-words .ensures))
 
 pub clear-spec : {M : Type 1} → statement M
 clear-spec =

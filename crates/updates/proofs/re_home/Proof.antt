@@ -1,11 +1,12 @@
 -- `re_home` meets its contract: a refusal writes nothing, and else the route takes the place of the one of its prefix. Assumes nothing.
-use mathlib.Core.Path.{sym, _∙_}
+use mathlib.Core.Path.{_≡_, sym, _∙_}
 use Rattle.refusals.specs.Memory.{Lent, memory}
 use Rattle.rules.specs.Words.{routeBy}
 use Rattle.updates.specs.Effects.{announced}
 use Rattle.updates.specs.Calls.{reHome}
 use Rattle.updates.proofs.Putting.{re-home-puttable}
 use Rattle.updates.proofs.Outcomes.{refusal-meets, acceptance-meets}
+use native.Mathlib.Omega.{arith}
 use borrow.Author.Needs.{needs}
 use Rattle.updates.proofs.re_home.Statement.{statement}
 use Rattle.updates.proofs.re_home.Tie as tie
@@ -38,12 +39,13 @@ returns c =
     let k = c .before .before in
     let s = start k in
     let r = routeBy (s .args .prefix) (s .args .hop) in
-    refusal-meets (at-entry s) (announced (s .args .territory) r (at-entry s)) (k .re-home-checked .ensures .number) (c .if1 .taken)
+    let refused : ¬ (k .re-home-checked .result .code ≡ 0) = omega (arith, c .if1 .taken) in
+    refusal-meets (at-entry s) (announced (s .args .territory) r (at-entry s)) (k .re-home-checked .ensures .number) refused
 
 put-route-requires : tie.Need-put-route-requires
 put-route-requires c κs =
     let k = c .before .before .before .before .before .before in
-    let zero = c .before .before .before .before .if1 .left in
+    let zero : k .re-home-checked .result .code ≡ 0 = omega (arith, c .before .before .before .before .if1 .left) in
     re-home-puttable (sym (k .re-home-checked .ensures .number) ∙ zero) (k .re-home-checked .ensures .listed zero) (k .re-home-checked .ensures .place zero)
 
 same-length-5 : tie.Need-same-length-5
@@ -65,7 +67,8 @@ returns-2 c =
     let k = done .before .before .before .before .before .before .before in
     let s = start k in
     let r = routeBy (s .args .prefix) (s .args .hop) in
-    acceptance-meets (at-entry s) (announced (s .args .territory) r (at-entry s)) (sym (k .re-home-checked .ensures .number) ∙ done .before .before .before .before .before .if1 .left)
+    let zero : k .re-home-checked .result .code ≡ 0 = omega (arith, done .before .before .before .before .before .if1 .left) in
+    acceptance-meets (at-entry s) (announced (s .args .territory) r (at-entry s)) (sym (k .re-home-checked .ensures .number) ∙ zero)
     (done .put-route .ensures)
 
 pub re-home-spec : {M : Type 1} → statement M

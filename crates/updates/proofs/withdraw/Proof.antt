@@ -1,10 +1,11 @@
 -- `withdraw` meets its contract: a refusal writes nothing, and else the prefix is taken out. Assumes nothing.
-use mathlib.Core.Path.{sym, _∙_}
+use mathlib.Core.Path.{_≡_, sym, _∙_}
 use Rattle.refusals.specs.Memory.{Lent, memory}
 use Rattle.updates.specs.Effects.{withdrawn}
 use Rattle.updates.specs.Calls.{withdraw}
 use Rattle.updates.proofs.Taking.{withdraw-takable}
 use Rattle.updates.proofs.Outcomes.{refusal-meets, acceptance-meets}
+use native.Mathlib.Omega.{arith}
 use borrow.Author.Needs.{needs}
 use Rattle.updates.proofs.withdraw.Statement.{statement}
 use Rattle.updates.proofs.withdraw.Tie as tie
@@ -36,12 +37,13 @@ unfolding withdraw
 returns c =
     let k = c .before .before in
     let s = start k in
-    refusal-meets (at-entry s) (withdrawn (s .args .territory) (s .args .prefix) (at-entry s)) (k .withdraw-checked .ensures .number) (c .if1 .taken)
+    let refused : ¬ (k .withdraw-checked .result .code ≡ 0) = omega (arith, c .if1 .taken) in
+    refusal-meets (at-entry s) (withdrawn (s .args .territory) (s .args .prefix) (at-entry s)) (k .withdraw-checked .ensures .number) refused
 
 take-prefix-requires : tie.Need-take-prefix-requires
 take-prefix-requires c κs =
     let k = c .before .before .before .before .before .before in
-    let zero = c .before .before .before .before .if1 .left in
+    let zero : k .withdraw-checked .result .code ≡ 0 = omega (arith, c .before .before .before .before .if1 .left) in
     withdraw-takable (sym (k .withdraw-checked .ensures .number) ∙ zero) (k .withdraw-checked .ensures .listed zero) (k .withdraw-checked .ensures .place zero)
 
 same-length-5 : tie.Need-same-length-5
@@ -62,7 +64,8 @@ returns-2 c =
     let done = c .before .before .before .before .before .before .before .before in
     let k = done .before .before .before .before .before .before .before in
     let s = start k in
-    acceptance-meets (at-entry s) (withdrawn (s .args .territory) (s .args .prefix) (at-entry s)) (sym (k .withdraw-checked .ensures .number) ∙ done .before .before .before .before .before .if1 .left)
+    let zero : k .withdraw-checked .result .code ≡ 0 = omega (arith, done .before .before .before .before .before .if1 .left) in
+    acceptance-meets (at-entry s) (withdrawn (s .args .territory) (s .args .prefix) (at-entry s)) (sym (k .withdraw-checked .ensures .number) ∙ zero)
     (done .take-prefix .ensures)
 
 pub withdraw-spec : {M : Type 1} → statement M

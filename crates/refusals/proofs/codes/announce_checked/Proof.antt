@@ -45,8 +45,9 @@ refused-requires c κs = search needs
 returns-2 : tie.Need-returns-2
 returns-2 c =
     let s = c .before .before .before .before .before .before .before .before .before .before .before in
-    refused-is (c .refused .ensures) (λ z. omega arith)
+    refused-is (c .refused .ensures)
     (announce-6 (s .args .territory) (lent-of s) (route s) (told (c .before .before .before .before .before)) (c .before .before .before .if1 .left) (c .before .before .is-full .ensures) (c .before .if2 .taken))
+    (omega arith) (λ z. omega arith)
 
 no-segment-requires : tie.Need-no-segment-requires
 no-segment-requires c κs =
@@ -60,9 +61,10 @@ returns-3 : tie.Need-returns-3
 unfolding needsSegment
 returns-3 c =
     let s = c .before .before .before .before .before .before .before .before .before .before .before .before .before in
-    refused-is (c .refused2 .ensures) (λ z. omega arith)
+    refused-is (c .refused2 .ensures)
     (announce-7 (s .args .territory) (lent-of s) (route s) (told (c .before .before .before .before .before .before .before)) (c .before .before .before .before .before .if1 .left) (c .before .before .before .before .is-full .ensures) (c .before .before .before .if2 .left)
     (c .before .before .no-segment .ensures) (c .before .if3 .taken))
+    (omega arith) (λ z. omega arith)
 
 returns-4 : tie.Need-returns-4
 unfolding needsSegment

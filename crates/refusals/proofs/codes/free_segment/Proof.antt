@@ -10,7 +10,7 @@ use Rattle.refusals.proofs.codes.free_segment.Statement.{statement}
 use Rattle.refusals.proofs.codes.free_segment.Tie as tie
 
 abbrev Inv-loop : tie.InvT-loop
-Inv-loop owners i₀ i = (i ≤ length owners) × ((k : ℕ) → k < i → getD owners k 0 ≡ 0 → ⊥)
+Inv-loop owners i₀ i = ((k : ℕ) → k < i → getD owners k 0 ≡ 0 → ⊥) × (i ≤ length owners)
 
 abbrev μ-loop : tie.MeasureT-loop
 μ-loop owners i₀ i = length owners - i
@@ -28,7 +28,7 @@ returns : tie.Need-returns Inv-loop μ-loop
 returns c =
     let s = c .before .before .before .before .args in
     let l = c .before .before .before .loop in
-    sym (lowest-is (s .owners .now) (l .i) (omega arith) (l .inv .1) (c .if1 .taken))
+    sym (lowest-is (s .owners .now) (l .i) (omega arith) (l .inv .0) (c .if1 .taken))
 
 add-i : tie.Need-add-i Inv-loop μ-loop
 add-i c = search needs
@@ -37,13 +37,13 @@ loop-less : tie.Need-loop-less Inv-loop μ-loop
 loop-less c = search needs
 
 loop-again : tie.Need-loop-again Inv-loop μ-loop
-loop-again c = (search needs, below-more _ _ (c .before .before .before .loop .inv .1) (c .if1 .left))
+loop-again c = (below-more _ _ (c .before .before .before .loop .inv .0) (c .if1 .left), search needs)
 
 returns-2 : tie.Need-returns-2 Inv-loop μ-loop
 returns-2 c =
     let s = c .before .before .args in
     let l = c .before .loop in
-    sym (lowest-is (s .owners .now) (l .i) (omega arith) (l .inv .1) (List·getD-eq-default (s .owners .now) 0 (c .loop-test .left)))
+    sym (lowest-is (s .owners .now) (l .i) (omega arith) (l .inv .0) (List·getD-eq-default (s .owners .now) 0 (c .loop-test .left)))
 
 pub free-segment-spec : {M : Type 1} → statement M
 free-segment-spec =

@@ -23,8 +23,9 @@ refused-requires c κs = search needs
 returns-2 : tie.Need-returns-2
 returns-2 c =
     let s = c .before .before .before .before .before .before .before .before .before .before in
-    refused-is (c .refused .ensures) (λ z. omega arith)
+    refused-is (c .refused .ensures)
     (not-live (s .args .territory) (lent-of s) (s .args .prefix) (s .args .lets) (c .before .before .before .before .before .tests .ensures) (c .before .before .before .if1 .left) (c .before .if2 .taken))
+    (omega arith) (λ z. omega arith)
 
 returns-3 : tie.Need-returns-3
 returns-3 c =

@@ -28,9 +28,10 @@ refused-requires c κs = search needs
 returns : tie.Need-returns
 returns c =
     let s = c .before .before .before .before .before .before .before in
-    refused-is (c .refused .ensures) (λ z. omega arith)
+    refused-is (c .refused .ensures)
     (stops-at-1 (s .args .territory) (lent-of s) (s .args .prefix) (s .args .lets) 0
     (if-not (isLent? (lent-of s) (s .args .territory)) (c .before .before .lent .ensures) (c .before .if1 .taken)))
+    (omega arith) (λ z. omega arith)
 
 -- past the first test what is lent is right
 lent : (c : tie.Else1) → let s = c .before .before .before .before .before .before in IsLent (lent-of s) (s .args .territory)
@@ -42,8 +43,9 @@ refused-requires-2 c κs = search needs
 returns-2 : tie.Need-returns-2
 returns-2 c =
     let s = c .before .before .before .before .before .before .before .before in
-    refused-is (c .refused2 .ensures) (λ z. omega arith)
+    refused-is (c .refused2 .ensures)
     (stops-at-2 (s .args .territory) (lent-of s) (s .args .prefix) (s .args .lets) 0 (lent (c .before .before)) (not-true _ (c .before .if2 .taken)))
+    (omega arith) (λ z. omega arith)
 
 -- past the second so are the numbers
 numbers : (c : tie.Else2) → c .before .before .before .before .before .before .before .args .lets ≡ true
@@ -58,9 +60,10 @@ refused-requires-3 c κs = search needs
 returns-3 : tie.Need-returns-3
 returns-3 c =
     let s = c .before .before .before .before .before .before .before .before .before .before in
-    refused-is (c .refused3 .ensures) (λ z. omega arith)
+    refused-is (c .refused3 .ensures)
     (stops-at-3 (s .args .territory) (lent-of s) (s .args .prefix) (s .args .lets) 0 (lent (c .before .before .before .before)) (numbers (c .before .before .before))
     (if-not (encloses? (s .args .territory) (s .args .prefix)) (c .before .before .encloses .ensures) (c .before .if3 .taken)))
+    (omega arith) (λ z. omega arith)
 
 -- past the third the prefix is inside the territory
 inside : (c : tie.Else3) → let s = c .before .before .before .before .before .before .before .before .before .args in Encloses (s .territory) (s .prefix)
@@ -75,9 +78,10 @@ refused-requires-4 c κs = search needs
 returns-4 : tie.Need-returns-4
 returns-4 c =
     let s = c .before .before .before .before .before .before .before .before .before .before .before .before .before in
-    refused-is (c .refused4 .ensures) (λ z. omega arith)
+    refused-is (c .refused4 .ensures)
     (stops-at-4 (s .args .territory) (lent-of s) (s .args .prefix) (s .args .lets) 0 (lent (c .before .before .before .before .before .before .before)) (numbers (c .before .before .before .before .before .before)) (inside (c .before .before .before .before))
     (λ u. if-not (formed? (s .args .territory) (s .args .rules .now)) (c .before .before .before .form-of .ensures .test) (c .before .if4 .taken) (u .rules)))
+    (omega arith) (λ z. omega arith)
 
 -- past the fourth the rule words have their form
 formed : (c : tie.Else4) → let s = c .before .before .before .before .before .before .before .before .before .before .before .before .args in Formed (s .territory) (s .rules .now)
@@ -100,10 +104,11 @@ returns-5 : tie.Need-returns-5
 returns-5 c =
     let s = c .before .before .before .before .before .before .before .before .before .before .before .before .before .before .before in
     let a = s .args in
-    refused-is (c .refused5 .ensures) (λ z. omega arith)
+    refused-is (c .refused5 .ensures)
     (stops-at-4 (a .territory) (lent-of s) (a .prefix) (a .lets) 0 (lent (c .before .before .before .before .before .before .before .before .before)) (numbers (c .before .before .before .before .before .before .before .before)) (inside (c .before .before .before .before .before .before))
     (λ u. if-not (blocksSound? (a .territory) (a .first .now) (a .long .now) (a .owners .now) (routes (a .rules .now)) (a .prefix))
     (c .before .before .blocks-sound .ensures) (c .before .if5 .taken) (u .blocks)))
+    (omega arith) (λ z. omega arith)
 
 find-requires : tie.Need-find-requires
 find-requires c κs = (listed (c .before .before), c .before .before .before .before .before .before .before .before .before .before .before .before .before .before .pre (numbers (c .before .before .before .before .before .before .before)))
@@ -112,13 +117,14 @@ returns-6 : tie.Need-returns-6
 returns-6 c =
     let s = c .before .before .before .before .before .before .before .before .before .before .before .before .before .before .before in
     let a = s .args in
+    let answer = goes-on (a .territory) (lent-of s) (a .prefix) (a .lets) 0 (lent (c .before .before .before .before .before .before .before .before .before)) (numbers (c .before .before .before .before .before .before .before .before)) (inside (c .before .before .before .before .before .before))
+    (record {
+      rules = formed (c .before .before .before);
+      blocks = if-so (blocksSound? (a .territory) (a .first .now) (a .long .now) (a .owners .now) (routes (a .rules .now)) (a .prefix))
+          (c .before .before .blocks-sound .ensures) (c .before .if5 .left);
+    }) in
     record {
-      number = goes-on (a .territory) (lent-of s) (a .prefix) (a .lets) 0 (lent (c .before .before .before .before .before .before .before .before .before)) (numbers (c .before .before .before .before .before .before .before .before)) (inside (c .before .before .before .before .before .before))
-          (record {
-            rules = formed (c .before .before .before);
-            blocks = if-so (blocksSound? (a .territory) (a .first .now) (a .long .now) (a .owners .now) (routes (a .rules .now)) (a .prefix))
-                (c .before .before .blocks-sound .ensures) (c .before .if5 .left);
-          });
+      number = omega arith;
       listed = λ z. listed (c .before .before .before);
       place = λ z. c .find .ensures;
       refused = λ n. absurd (n refl);

@@ -2,6 +2,8 @@
 use mathlib.Core.Path.{sym, ap, _∙_}
 use mathlib.Core.Bool.{Bool, _||_}
 use lib.Dec.{ltb}
+use native.Mathlib.Omega.{arith}
+use Rattle.ground.proofs.Tests.{ltb?, iff?, same-test}
 use Rattle.rules.specs.Words.{prefixOf}
 use borrow.Author.Needs.{needs}
 use Rattle.refusals.proofs.damage.opens.Statement.{statement}
@@ -16,7 +18,8 @@ length-requires c κs = search needs
 returns-2 : tie.Need-returns-2
 returns-2 c =
     let s = c .before .before .args in
-    ap (ltb 24) (c .length .ensures) ∙ sym (ap (λ (t : Bool). t || ltb 24 (prefixOf (s .word) .length)) (c .before .if1 .left))
+    same-test (ltb? _ (c .length .result)) (iff? (ltb? 24 (prefixOf (s .word) .length)) (λ h. omega (arith, c .length .ensures)) (λ h. omega (arith, c .length .ensures)))
+    ∙ sym (ap (λ (t : Bool). t || ltb 24 (prefixOf (s .word) .length)) (c .before .if1 .left))
 
 pub opens-spec : {M : Type 1} → statement M
 opens-spec = tie.close (tie.spec returns length-requires returns-2)

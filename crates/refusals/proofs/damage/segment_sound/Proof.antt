@@ -40,9 +40,9 @@ returns-3 : tie.Need-returns-3
 returns-3 c =
     let s = c .before .before .before .before .before .before .args in
     c .clean-run .ensures
-    ∙ same-test (cleanRun? 32 (s .long .now) (s .segment * 256) 256)
-    (iff? (segmentSound? (s .long .now) (s .owners .now) (s .block) (s .segment)) (λ h. h .clean)
-    (λ k. record { lent = omega arith; owned = omega arith; clean = k }))
+    ∙ same-test (cleanRun? 32 (s .long .now) (s .segment * 256) _)
+    (iff? (segmentSound? (s .long .now) (s .owners .now) (s .block) (s .segment)) (λ h i l. h .clean i (omega arith))
+    (λ k. record { lent = omega arith; owned = omega arith; clean = λ i l. k i (omega arith) }))
 
 pub segment-sound-spec : {M : Type 1} → statement M
 segment-sound-spec =

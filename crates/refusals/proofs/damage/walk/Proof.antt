@@ -12,7 +12,7 @@ use Rattle.refusals.proofs.damage.walk.Statement.{statement}
 use Rattle.refusals.proofs.damage.walk.Tie as tie
 
 abbrev Inv-loop : tie.InvT-loop
-Inv-loop first long owners rules live base from count at end block₀ here₀ block here = (block ≤ end) × Walked base first long owners rules live from block here
+Inv-loop first long owners rules live base from count at end block₀ here₀ block here = Walked base first long owners rules live from block here × (block ≤ end)
 
 abbrev μ-loop : tie.MeasureT-loop
 μ-loop first long owners rules live base from count at end block₀ here₀ block here = end - block
@@ -23,7 +23,7 @@ add-end c = search needs
 loop-holds : tie.Need-loop-holds Inv-loop μ-loop
 loop-holds c =
     let s = c .before .before .before .before .pre in
-    (search needs, record { forward = omega arith; reached = s .reached; sound = λ k l m. absurd (omega arith) })
+    (record { forward = omega arith; reached = s .reached; sound = λ k l m. absurd (omega arith) }, search needs)
 
 mul-start : tie.Need-mul-start Inv-loop μ-loop
 mul-start c = search needs
@@ -35,7 +35,7 @@ sub-stretch : tie.Need-sub-stretch Inv-loop μ-loop
 sub-stretch c = search needs
 
 stretch-requires : tie.Need-stretch-requires Inv-loop μ-loop
-stretch-requires c κs = (c .before .before .before .before .before .before .pre .listed, c .before .loop .inv .1 .reached)
+stretch-requires c κs = (c .before .before .before .before .before .before .pre .listed, c .before .loop .inv .0 .reached)
 
 clean-run-requires : tie.Need-clean-run-requires Inv-loop μ-loop
 clean-run-requires c κs = omega (arith, c .stretch .ensures .within)
@@ -48,7 +48,7 @@ returns c =
     let h = c .before .before .stretch .ensures in
     sym (stops (soundRun? (a .base) (a .first .now) (a .long .now) (a .owners .now) (routes (a .rules .now)) (a .from) (a .count)) (λ all.
     if-not (cleanRun? 24 (a .first .now) (l .block) (c .before .before .stretch .result)) (c .before .clean-run .ensures) (c .if1 .taken)
-    (clean-run (s .pre .listed) (s .pre .aligned) (l .inv .1) h (λ j m k. all j (omega arith) (omega arith)))))
+    (clean-run (s .pre .listed) (s .pre .aligned) (l .inv .0) h (λ j m k. all j (omega arith) (omega arith)))))
 
 -- past the first test, the cells of the stretch are clean
 clean : (c : tie.Else1 Inv-loop μ-loop)
@@ -66,7 +66,7 @@ returns-2 c =
     let a = s .args in
     let l = c .before .before .before .before .before .loop in
     sym (passes (soundRun? (a .base) (a .first .now) (a .long .now) (a .owners .now) (routes (a .rules .now)) (a .from) (a .count)) (λ k m j.
-    sound-run (s .pre .listed) (s .pre .aligned) (l .inv .1) (c .before .before .before .stretch .ensures) (clean (c .before)) k m (omega arith)))
+    sound-run (s .pre .listed) (s .pre .aligned) (l .inv .0) (c .before .before .before .stretch .ensures) (clean (c .before)) k m (omega arith)))
 
 mul-pass : tie.Need-mul-pass Inv-loop μ-loop
 mul-pass c = search needs
@@ -91,8 +91,8 @@ returns-3 c =
     let opened = c .before .before .pass .result .opened in
     sym (stops (soundRun? (a .base) (a .first .now) (a .long .now) (a .owners .now) (routes (a .rules .now)) (a .from) (a .count)) (λ all.
     if-not (soundBy? (a .first .now) (a .long .now) (a .owners .now) (l .block + k) opened) (c .before .block-sound .ensures) (c .if3 .taken)
-    (sound-here (s .pre .listed) (s .pre .aligned) (l .inv .1) (c .before .before .before .before .before .before .stretch .ensures) (c .before .before .pass .ensures)
-    (all (l .block + k) (omega (arith, l .inv .1 .forward)) (omega arith)))))
+    (sound-here (s .pre .listed) (s .pre .aligned) (l .inv .0) (c .before .before .before .before .before .before .stretch .ensures) (c .before .before .pass .ensures)
+    (all (l .block + k) (omega (arith, l .inv .0 .forward)) (omega arith)))))
 
 add-block : tie.Need-add-block Inv-loop μ-loop
 add-block c = search needs
@@ -107,17 +107,17 @@ loop-again c =
     let l = c .before .before .before .before .before .before .before .before .loop in
     let k = c .before .before .before .before .before .before .stretch .result in
     let opened = c .before .before .pass .result .opened in (
-      search needs,
-      walked-on (s .pre .listed) (s .pre .aligned) (l .inv .1) (c .before .before .before .before .before .before .stretch .ensures) (c .before .before .pass .ensures)
-          (clean (c .before .before .before .before))
+      walked-on (s .pre .listed) (s .pre .aligned) (l .inv .0) (c .before .before .before .before .before .before .stretch .ensures) (c .before .before .pass .ensures)
+          (omega arith) (clean (c .before .before .before .before))
           (if-so (soundBy? (a .first .now) (a .long .now) (a .owners .now) (l .block + k) opened) (c .before .block-sound .ensures) (c .if3 .left)),
+      search needs,
     )
 
 returns-4 : tie.Need-returns-4 Inv-loop μ-loop
 returns-4 c =
     let a = c .before .before .before .before .before .before .args in
     sym (passes (soundRun? (a .base) (a .first .now) (a .long .now) (a .owners .now) (routes (a .rules .now)) (a .from) (a .count)) (λ k m j.
-    c .before .loop .inv .1 .sound k m (omega arith)))
+    c .before .loop .inv .0 .sound k m (omega arith)))
 
 pub walk-spec : {M : Type 1} → statement M
 walk-spec =

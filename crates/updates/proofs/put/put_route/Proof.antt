@@ -1,5 +1,6 @@
 -- `put::put_route` meets its contract: the tables are painted, and the route is put at its place among the rules, which painting leaves
 -- as they are. Assumes nothing.
+use native.Mathlib.Omega.{arith}
 use Rattle.refusals.specs.Memory.{Lent, memory}
 use Rattle.rules.specs.Words.{routeBy}
 use Rattle.updates.proofs.Putting.{put-meets}
@@ -40,6 +41,7 @@ returns c =
     let painted = done .before .before .before .before .before .before .before .before in
     let s = start painted in
     put-meets (s .args .territory) (routeBy (s .args .prefix) (s .args .hop)) (at-entry s) (painted .paint-route .ensures) (done .put .ensures)
+    (omega arith)
 
 pub put-route-spec : {M : Type 1} → statement M
 put-route-spec =

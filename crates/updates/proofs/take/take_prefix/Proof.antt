@@ -4,7 +4,7 @@ use mathlib.Core.Path.{ap, _∙_}
 use native.Mathlib.Omega.{arith}
 use Rattle.refusals.specs.Memory.{Lent, memory}
 use Rattle.rules.specs.Rules.{routes}
-use Rattle.updates.proofs.Taking.{left-count, left-listed, left-routes, take-meets}
+use Rattle.updates.proofs.Taking.{left-count, left-listed, left-routes, take-meets, placed}
 use borrow.Author.Needs.{needs}
 use Rattle.updates.proofs.take.take_prefix.Statement.{statement}
 use Rattle.updates.proofs.take.take_prefix.Tie as tie
@@ -17,7 +17,7 @@ abbrev start : tie.After-take-out → tie.Start
 start c = c .before .before .before .before .before .before
 
 take-out-requires : tie.Need-take-out-requires
-take-out-requires c κs = let T = c .before .before .before .before .before .pre in (T .listed, (T .repaintable .ready .formed, (T .place, T .lives)))
+take-out-requires c κs = let T = c .before .before .before .before .before .pre in (T .listed, (T .repaintable .ready .formed, (placed (T .place) (omega arith), T .lives)))
 
 sub-unpaint-or-close : tie.Need-sub-unpaint-or-close
 sub-unpaint-or-close c = let s = start (c .before .before .before .before .before .before .before) in omega (arith, left-count (at-entry s) (s .pre))
@@ -46,6 +46,7 @@ returns c =
     let out = done .before .before .before .before .before .before .before .before in
     let s = start out in
     take-meets (at-entry s) (s .pre) (ap routes (out .take-out .ensures) ∙ left-routes (at-entry s) (s .pre)) (done .unpaint-or-close .ensures) (out .take-out .ensures)
+    (omega arith)
 
 pub take-prefix-spec : {M : Type 1} → statement M
 take-prefix-spec =

@@ -1,6 +1,7 @@
 -- `take::unpaint_or_close` meets its contract: where the block closes, what is repainted before does not show, and else the cells are
 -- repainted. Assumes nothing.
 use mathlib.Core.Path.{sym, ap, _∙_}
+use native.Mathlib.Omega.{arith}
 use Rattle.prefix.specs.Routes.{best}
 use Rattle.cells.specs.Cells.{cellOf}
 use Rattle.refusals.specs.Memory.{Lent, memory}
@@ -48,9 +49,8 @@ returns c =
     let k = run .before .before .before in
     let s = start k in
     let left = routes (s .args .rules .now) in
-    unpainted-closed (at-entry s) (s .pre .0) left (sym (k .closes-block .ensures) ∙ run .before .before .if1 .taken)
-    (run .longest .ensures .is ∙ ap (λ (a : _). cellOf (best left a)) (run .before .block-start .ensures))
-    (done .close .ensures)
+    let match = run .longest .ensures .is ∙ ap (λ (a : _). cellOf (best left a)) (run .before .block-start .ensures) in
+    unpainted-closed (at-entry s) (s .pre .0) left (sym (k .closes-block .ensures) ∙ run .before .before .if1 .taken) (omega arith) (done .close .ensures)
 
 unpaint-requires : tie.Need-unpaint-requires
 unpaint-requires c κs = let s = start (c .before .before .before .before) in s .pre
