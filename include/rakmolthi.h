@@ -36,6 +36,8 @@
  * Where several hold, the first in the order of the tests is answered: 1, 2, 3, 4, 5, 6, 7, 8; 20, 21, 22, 23, 24, 25, with the 15 bytes
  * of 20 tested after 21; 26, 23, 25.
  *
+ * The library is x86-64 code.
+ *
  * At the same time. A call that only reads (rk_look_up, rk_look_up_all, rk_read_record) may run beside others that only read the same
  * memory. A call that writes must have the memory that it writes to itself.
  */
@@ -49,7 +51,11 @@
 extern "C" {
 #endif
 
-/* What an update answers: 0 and how many cells of the two tables it changed, or a refusal and 0. That number is the update's price. */
+/*
+ * What an update answers: 0 and how many cells of the two tables it changed, or a refusal and 0. Where nothing but rk_clear and these calls
+ * wrote the lent memory, that number is the update's price, which the live prefixes before and after it give; on other memory it is still
+ * the number of cells that differ.
+ */
 typedef struct {
     uint32_t code;
     uint32_t cells;

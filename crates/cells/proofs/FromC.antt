@@ -1,12 +1,11 @@
 -- The words that an update leaves, passed as their bytes: look up from C answers what look up answers on the words. Assumes nothing.
-use mathlib.Core.Path.{_≡_, refl, sym, ap, ap₂, _∙_}
+use mathlib.Core.Path.{_≡_, refl, ap, ap₂, _∙_}
 use mathlib.Core.List.{List, [], _∷_}
 use Prim.Native.Nat.{ℕ, suc, _+_, _*_, _/_, _%_}
 use native.Mathlib.Omega.{arith}
 use lib.ListN.{length}
 use Rattle.ground.proofs.Tests.{and?, eqb?, cond-on}
 use Rattle.prefix.specs.declared.Prefix.{Prefix}
-use Rattle.cells.specs.declared.look.Answer.{Answer}
 use Rattle.cells.specs.Lookup.{refused, packed, lookUp}
 use Rattle.cells.specs.Bytes.{words, bytesOf, lookUpBytes}
 

@@ -1,5 +1,4 @@
 // Standard input: a buffer filled with whole records, the end of the input told from a read that fails.
-ghost use mathlib.Core.Path.{_≡_};
 ghost use Prim.Native.Nat.{_≤_};
 ghost use lib.ListN.{length};
 ghost use Rattle.collector.specs.Running.{FilledIs};

@@ -1,15 +1,9 @@
 // The small program: a site's collector. It takes update records from standard input into the tables of one territory, and prints a line
 // for each. `collector.c` is its main.
-ghost use Rattle.refusals.specs.Memory.{memory};
-ghost use Rattle.refusals.proofs.Lending.{IsLent};
-ghost use Rattle.collector.specs.Running.{site, LastIs};
-
 mod failures;
 mod input;
 mod output;
 mod run;
-
-use output::Last;
 
 // Runs the program, and answers its exit status: 0 at a clean end of the input, 1 where a record was refused, 2 where a read or a write
 // failed. It lends a cell for each of the 4,096 blocks, 16 segments, their owners, and 64 rules.

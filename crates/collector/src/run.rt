@@ -1,7 +1,7 @@
 // The loop of the program: bytes are read into a buffer, the records in it are taken, and their lines are printed.
 ghost use mathlib.Core.Path.{_≡_};
-ghost use Rattle.refusals.specs.Memory.{memory};
-ghost use Rattle.refusals.proofs.Lending.{IsLent};
+ghost use lib.ListN.{length};
+ghost use Rattle.refusals.specs.Memory.{memory, LentToUpdate};
 ghost use Rattle.collector.specs.Running.{site, countOf, nextOf, lastOf, Handed, LastIs};
 use crate::input;
 use crate::input::After;
@@ -137,7 +137,7 @@ fn last_of(next: Next, live: u64, opened: u64) -> Last
 
 // From cleared memory, the whole stream, and the numbers of the last line.
 pub fn run(first: &mut [u32], long: &mut [u32], owners: &mut [u32], rules: &mut [u64]) -> Last
-    requires { ⌜ IsLent (memory (now first) (now long) (now owners) (now rules)) site ⌝ }
+    requires { ⌜ LentToUpdate (length (now first)) (length (now long)) (length (now owners)) (length (now rules)) site ⌝ }
     ensures { λ r. ⌜ LastIs (memory (now (first .entry)) (now (long .entry)) (now (owners .entry)) (now (rules .entry))) r (memory (now (first .exit)) (now (long .exit)) (now (owners .exit)) (now (rules .exit))) ⌝ }
 {
     updates::clear(first, long, owners, rules, territory());

@@ -1,5 +1,5 @@
--- What is written is read back, and what was read is written back; read looks at the first 15 bytes only; the contracts of read and write
--- admit one outcome. All is said of the definitions that the contracts cite. Assumes nothing.
+-- What is written is read back, and what was read is written back; read looks at the first 15 bytes only. All is said of the definitions
+-- that the contracts cite. Assumes nothing.
 use mathlib.Core.Path.{_≡_, refl, sym, ap, subst, _∙_}
 use mathlib.Core.List.{List, [], _∷_, _++_}
 use Prim.Native.Nat.{ℕ, zero, suc, _+_, _/_, _%_, _^_, _<_, _≤_}
@@ -84,11 +84,3 @@ unfolding readAs
 read-alike a b expected ha hb e =
     let l = sym (take-tabulated 15 a ha) ∙ e ∙ take-tabulated 15 b hb in
     cc (le-ltb (length a) 2 (omega arith), le-ltb (length b) 2 (omega arith), le-ltb (length a) 15 ha, le-ltb (length b) 15 hb)
-
--- ---- the contracts admit one outcome
-
-pub one-reading : (bytes : List ℕ) (expected : ℕ) (r s : Reading) → r ≡ readAs bytes expected → s ≡ readAs bytes expected → r ≡ s
-one-reading bytes expected r s p q = p ∙ sym q
-
-pub one-writing : (room : List ℕ) (u : Update) (m n : ℕ) (a b : List ℕ) → Writes room u m a → Writes room u n b → (m ≡ n) × (a ≡ b)
-one-writing room u m n a b p q = (p .code ∙ sym (q .code), p .room ∙ sym (q .room))

@@ -1,7 +1,7 @@
 -- Demands 2 and 3 of a stream: after the updates of any stream from cleared memory, look up answers by the longest match, and the next one
 -- costs its price. Assumes nothing.
 use mathlib.Core.Path.{_≡_, refl, subst}
-use mathlib.Core.List.{List, [], _∷_}
+use mathlib.Core.List.{List, _∷_}
 use Prim.Native.Nat.{ℕ}
 use Rattle.prefix.specs.declared.Prefix.{Prefix}
 use Rattle.prefix.specs.Prefixes.{Contains}

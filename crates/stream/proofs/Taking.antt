@@ -8,7 +8,6 @@ use lib.ListN.{length, take, drop, length-drop, length-append}
 use lib.Seq.{take-at, drop-append-add, drop-drop}
 use borrow.Rule.Slice.PartAt.{part-to-end}
 use Rattle.prefix.specs.declared.Prefix.{Prefix}
-use Rattle.records.specs.declared.Update.{Update}
 use Rattle.records.specs.Record.{size, readAs, nextSerial}
 use Rattle.refusals.specs.Memory.{Lent}
 use Rattle.updates.specs.Calls.{Outcome}
@@ -16,7 +15,7 @@ use Rattle.history.specs.History.{step}
 use Rattle.stream.specs.declared.Step.{Step}
 use Rattle.stream.specs.declared.Step.the-variants.{Expects, Refused}
 use Rattle.stream.specs.declared.Turn.{Turn}
-use Rattle.stream.specs.Stream.{Stream, first-then, streamOf, callOf, applied, linesOf}
+use Rattle.stream.specs.Stream.{Stream, first-then, streamOf, applied, linesOf}
 use Rattle.stream.specs.Taking.{TurnIs, TakenIs}
 use Rattle.stream.proofs.Streams.{stream-none, stream-more, stream-refused, accepted-whole}
 

@@ -7,7 +7,6 @@ use Rattle.prefix.specs.declared.Prefix.{Prefix}
 use Rattle.records.specs.Record.{readAs}
 use Rattle.refusals.specs.Memory.{Lent}
 use Rattle.history.specs.History.{step}
-use Rattle.updates.specs.Calls.{Outcome}
 use Rattle.stream.specs.declared.Turn.{Turn}
 use Rattle.stream.specs.declared.Taken.{Taken}
 use Rattle.stream.specs.Stream.{callOf, streamOf, applied, linesOf}

@@ -2,7 +2,7 @@
 // line to be printed for it is left as three words. No input and no output happens here, so all of it is exact.
 ghost use mathlib.Core.Path.{_≡_};
 ghost use Prim.Native.Nat.{_+_, _*_, _≤_};
-ghost use mathlib.Core.List.{[], _∷_, _++_};
+ghost use mathlib.Core.List.{_∷_, _++_};
 ghost use lib.ListN.{length, take, drop};
 ghost use Rattle.history.specs.History.{step};
 ghost use Rattle.refusals.specs.Memory.{memory};

@@ -1,7 +1,6 @@
 -- `fill` is safe, ends, and stays within the buffer: the measure is the number of turns that are left. Assumes nothing.
 use mathlib.Core.Path.{_≡_}
 use Prim.Native.Nat.{_≤_}
-use native.Mathlib.Omega.{arith}
 use lib.ListN.{length}
 use borrow.Author.Needs.{needs}
 use Rattle.collector.proofs.input.fill.Statement.{statement}

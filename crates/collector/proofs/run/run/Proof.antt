@@ -1,9 +1,6 @@
 -- `run` meets its contract: clear, then what was handed over, then the counts. Assumes nothing.
-use mathlib.Core.Path.{_≡_, sym, ap, subst, _∙_}
-use Rattle.prefix.specs.declared.Prefix.{Prefix}
-use Rattle.refusals.specs.Memory.{Lent, memory}
+use Rattle.refusals.specs.Memory.{memory}
 use Rattle.updates.specs.Calls.{clear}
-use Rattle.collector.specs.Running.{Handed}
 use Rattle.collector.proofs.Running.{cleared-by, last-is}
 use borrow.Author.Needs.{needs}
 use Rattle.collector.proofs.run.run.Statement.{statement}
