@@ -1,5 +1,5 @@
 -- Pieces of the input, one after another, and the last line of a history. Assumes nothing.
-use mathlib.Core.Path.{_≡_, refl, sym, ap, subst, _∙_}
+use mathlib.Core.Path.{_≡_, refl, sym, ap, ap₂, subst, _∙_}
 use mathlib.Core.Bool.{true, false, true≢false}
 use mathlib.Core.List.{List, [], _++_}
 use Prim.Native.Nat.{ℕ, _+_, _-_, _%_, _≤_}
@@ -60,10 +60,30 @@ handed-more {expected} {serial} {m} {n} {k} {r} A B =
     agrees (Ends number) e w = w ∙ sym (ap numberOf e)
     agrees Fails e w = tt
 
+-- as the loop's arms tell it
 pub handed-as : {expected : ℕ} {m n : Lent} {r s : Next} → Handed expected m r n → r ≡ s → Handed expected m s n
 handed-as {expected} {m} {n} H e = subst (λ (x : Next). Handed expected m x n) e H
 
+pub handed-on : {expected serial : ℕ} {m n : Lent} {r : Next} → Handed expected m r n → r ≡ Goes serial → {k : ℕ} → k ≡ serial → Handed expected m (Goes k) n
+handed-on H e q = handed-as H (e ∙ ap (λ (x : ℕ). Goes x) (sym q))
+
+pub handed-end : {expected number : ℕ} {m n : Lent} {r : Next} → Handed expected m r n → r ≡ Ends number → {k : ℕ} → k ≡ number → Handed expected m (Ends k) n
+handed-end H e q = handed-as H (e ∙ ap (λ (x : ℕ). Ends x) (sym q))
+
 -- ---- one buffer
+
+-- what comes next, arm by arm
+pub next-refused : (after : After) {s : Step} {number k : ℕ} → s ≡ Refused number → k ≡ number → Ends k ≡ nextOf s after
+next-refused after e q = ap (λ (x : ℕ). Ends x) q ∙ sym (ap (λ (x : Step). nextOf x after) e)
+
+pub next-records : {s : Step} {after : After} {serial k : ℕ} → s ≡ Expects serial → after ≡ Records → k ≡ serial → Goes k ≡ nextOf s after
+next-records {serial = serial} e a q = ap (λ (x : ℕ). Goes x) q ∙ sym (ap₂ nextOf e a)
+
+pub next-end : {s : Step} {after : After} {serial k : ℕ} → s ≡ Expects serial → after ≡ End → k ≡ 0 → Ends k ≡ nextOf s after
+next-end e a q = ap (λ (x : ℕ). Ends x) q ∙ sym (ap₂ nextOf e a)
+
+pub next-failure : {s : Step} {after : After} {serial : ℕ} → s ≡ Expects serial → after ≡ Failure → Fails ≡ nextOf s after
+next-failure e a = sym (ap₂ nextOf e a)
 
 -- what comes next agrees with where the stream of the taken bytes stands
 pub next-agrees : (s : Step) (after : After) (count : ℕ) (bytes : List ℕ) → Whole count after → length bytes ≡ takes count after → Agrees (nextOf s after) s bytes
@@ -122,8 +142,8 @@ module _ (m : Lent) {n : Lent} {next : Next} (lent : IsLent m site) (H : Handed 
   unfolding memory
   memory-is = H .lent ∙ sym (memory-goes-on site m start (streamOf (H .bytes) 0 .updates))
 
-  pub last-is : {lives opens : ℕ} {r : Last} → lives ≡ used (n .rules) → opens ≡ used (n .owners) → r ≡ lastOf next lives opens → LastIs m r n
-  last-is {lives} {opens} {r} e f g = record {
+  pub last-is : {lives opens : ℕ} {r : Last} → r ≡ lastOf next lives opens → lives ≡ used (n .rules) → opens ≡ used (n .owners) → LastIs m r n
+  last-is {lives} {opens} {r} g e f = record {
     bytes = H .bytes;
     lent = memory-is;
     number = λ z. ap (λ (x : Last). x .code) g ∙ numbered next (H .says) (sym (ap (λ (x : Last). x .failed) g) ∙ z);

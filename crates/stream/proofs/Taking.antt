@@ -4,8 +4,8 @@ use mathlib.Core.Path.{_≡_, refl, sym, ap, subst, _∙_}
 use mathlib.Core.List.{List, [], _∷_, _++_, append-nil, append-assoc}
 use Prim.Native.Nat.{ℕ, suc, _+_, _-_, _*_, _≤_, _<_}
 use native.Mathlib.Omega.{arith}
-use lib.ListN.{length, take, drop, length-drop, length-append}
-use lib.Seq.{take-at, drop-append-add, drop-drop}
+use lib.ListN.{length, set, take, drop, length-drop, length-append}
+use lib.Seq.{sets-eq, take-at, drop-append-add, drop-drop}
 use borrow.Rule.Slice.PartAt.{part-to-end}
 use Rattle.prefix.specs.declared.Prefix.{Prefix}
 use Rattle.records.specs.Record.{size, readAs, nextSerial}
@@ -18,6 +18,15 @@ use Rattle.stream.specs.declared.Turn.{Turn}
 use Rattle.stream.specs.Stream.{Stream, first-then, streamOf, applied, linesOf}
 use Rattle.stream.specs.Taking.{TurnIs, TakenIs}
 use Rattle.stream.proofs.Streams.{stream-none, stream-more, stream-refused, accepted-whole}
+
+-- a line by three stores
+pub line-put : (lines : List ℕ) (at a b c serial code cells : ℕ) → at + 3 ≤ length lines → a ≡ serial → b ≡ code → c ≡ cells
+    → set (set (set lines at a) (at + 1) b) (at + 2) c ≡ take at lines ++ (serial ∷ code ∷ cells ∷ drop (at + 3) lines)
+line-put lines at a b c serial code cells room ea eb ec =
+    let one : at + 1 ≡ suc at = omega arith in
+    let two : at + 2 ≡ suc (suc at) = omega arith in
+    let line = serial ∷ code ∷ cells ∷ [] in
+    simp (ea, eb, ec, one, two) (sets-eq line lines at room ∙ append-assoc (take at lines) line (drop (at + 3) lines))
 
 -- of lines that begin with the words `done`, and go on as at entry: the next line put after them
 next-line : (lines done ls line : List ℕ) (n : ℕ) → length done ≡ n → ls ≡ done ++ drop n lines
@@ -83,13 +92,13 @@ module _ (t : Prefix) (bytes : List ℕ) (expected : ℕ) (m : Lent) (lines : Li
   turned next at {n} {n'} {r} = subst (λ (b : List ℕ). TurnIs t b next n r n') (part-to-end bytes at)
 
   pub going-refused : {n n' : Lent} {ls : List ℕ} {next count at : ℕ} {r : Turn} → Going n ls next count at → at < length bytes
-      → Turned next at n r n' → ¬ (r .code ≡ 0)
-      → TakenIs t bytes expected m lines (record { step = Refused (r .code); count = count }) n' ls
-  going-refused {n} {n'} {ls} {next} {count} {at} {r} G more turn refused =
+      → Turned next at n r n' → ¬ (r .code ≡ 0) → {number : ℕ} → number ≡ r .code
+      → TakenIs t bytes expected m lines (record { step = Refused number; count = count }) n' ls
+  going-refused {n} {n'} {ls} {next} {count} {at} {r} G more turn refused {number} told =
       let T = turned next at turn in
       let e = stream-refused (drop at bytes) next (omega (arith, length-drop at bytes)) (λ z. refused (T .number ∙ z)) in
-      let at-entry : TakenIs t bytes expected m lines (record { step = Refused (r .code); count = count }) n ls =
-      ends G (e ∙ ap (λ (k : ℕ). record { updates = []; step = Refused k }) (sym (T .number))) in
+      let at-entry : TakenIs t bytes expected m lines (record { step = Refused number; count = count }) n ls =
+      ends G (e ∙ ap (λ (k : ℕ). record { updates = []; step = Refused k }) (sym (told ∙ T .number))) in
       record {
         stands = at-entry .stands;
         count = at-entry .count;

@@ -1,10 +1,8 @@
 -- `put_line` meets its contract: three stores one after another. Assumes nothing.
-use mathlib.Core.Path.{_≡_, ap, _∙_}
-use mathlib.Core.List.{[], _∷_, append-assoc}
-use Prim.Native.Nat.{ℕ, suc, _+_, _*_}
+use Prim.Native.Nat.{_*_}
 use native.Mathlib.Omega.{arith}
-use lib.ListN.{set, length-set, take, drop}
-use lib.Seq.{sets-eq}
+use lib.ListN.{length-set}
+use Rattle.stream.proofs.Taking.{line-put}
 use borrow.Author.Needs.{needs}
 use Rattle.stream.proofs.put_line.Statement.{statement}
 use Rattle.stream.proofs.put_line.Tie as tie
@@ -40,15 +38,7 @@ same-length : tie.Need-same-length
 same-length c = search needs
 
 returns : tie.Need-returns
-returns c =
-    let line = c .args .serial ∷ c .args .report .code ∷ c .args .report .cells ∷ [] in
-    let lines = c .args .lines .now in
-    let at = 3 * c .args .before in
-    let one : at + 1 ≡ suc at = omega arith in
-    let two : at + 2 ≡ suc (suc at) = omega arith in
-    ap (λ (k : ℕ). set (set (set lines at (c .args .serial)) k (c .args .report .code)) (at + 2) (c .args .report .cells)) one
-    ∙ ap (λ (k : ℕ). set (set (set lines at (c .args .serial)) (suc at) (c .args .report .code)) k (c .args .report .cells)) two
-    ∙ sets-eq line lines at (c .pre) ∙ append-assoc (take at lines) line (drop (at + 3) lines)
+returns c = line-put (c .args .lines .now) (3 * c .args .before) _ _ _ (c .args .serial) (c .args .report .code) (c .args .report .cells) (c .pre) (omega arith) (omega arith) (omega arith)
 
 pub put-line-spec : {M : Type 1} → statement M
 put-line-spec =

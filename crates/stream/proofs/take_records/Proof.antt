@@ -54,7 +54,7 @@ returns c =
     let k = c .before .before .before .before .before .before .before .before .before .before in
     let l = k .before .before .before .before .before .before .before in
     let refused : ¬ (k .take-record .result .code ≡ 0) = omega (arith, c .if1 .taken) in
-    going-refused _ _ _ _ _ (l .loop .inv .5) (k .before .before .before .before .before .before .loop-test .taken) (k .take-record .ensures) refused
+    going-refused _ _ _ _ _ (l .loop .inv .5) (k .before .before .before .before .before .before .loop-test .taken) (k .take-record .ensures) refused (omega arith)
 
 put-line-requires : tie.Need-put-line-requires Inv-loop μ-loop
 put-line-requires c κs = search needs
@@ -93,7 +93,7 @@ loop-again c =
       search needs,
       search needs,
       search needs,
-      going-more _ _ _ _ _ (l .loop .inv .5) (k .take-record .ensures) zero (c .next-serial .ensures) (p .put-line .ensures),
+      going-more _ _ _ _ _ (l .loop .inv .5) (k .take-record .ensures) zero (omega (arith, c .next-serial .ensures)) (p .put-line .ensures),
     )
 
 same-length-6 : tie.Need-same-length-6 Inv-loop μ-loop

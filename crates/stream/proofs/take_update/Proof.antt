@@ -1,4 +1,6 @@
 -- `take_update` meets its contract: each kind's law of `Calling`. Assumes nothing.
+use mathlib.Core.Path.{_≡_}
+use native.Mathlib.Omega.{arith}
 use Rattle.refusals.specs.Memory.{Lent, memory}
 use Rattle.stream.proofs.Calling.{announcing, withdrawing, re-homing}
 use borrow.Author.Needs.{needs}
@@ -38,7 +40,8 @@ returns c =
     let k = c .before .before .before .before .before .before .before .before in
     let test = k .before .before .before .before .before in
     let s = start (test .before) in
-    announcing (s .args .territory) (s .args .update) (at-entry s) (test .if1 .taken) (k .announce .ensures)
+    let announces : s .args .update .kind ≡ 1 = omega (arith, test .if1 .taken) in
+    announcing (s .args .territory) (s .args .update) (at-entry s) announces (k .announce .ensures)
 
 withdraw-requires : tie.Need-withdraw-requires
 withdraw-requires c κs = search needs
@@ -60,7 +63,9 @@ returns-2 c =
     let k = c .before .before .before .before .before .before .before .before in
     let test = k .before .before .before .before .before in
     let s = start (test .before .before .before) in
-    withdrawing (s .args .territory) (s .args .update) (at-entry s) (test .before .before .if1 .left) (test .if2 .taken) (k .withdraw .ensures)
+    let other : ¬ (s .args .update .kind ≡ 1) = omega (arith, test .before .before .if1 .left) in
+    let withdraws : s .args .update .kind ≡ 2 = omega (arith, test .if2 .taken) in
+    withdrawing (s .args .territory) (s .args .update) (at-entry s) other withdraws (k .withdraw .ensures)
 
 re-home-requires : tie.Need-re-home-requires
 re-home-requires c κs = search needs
@@ -82,7 +87,9 @@ returns-3 c =
     let k = c .before .before .before .before .before .before .before .before in
     let test = k .before .before .before .before .before in
     let s = start (test .before .before .before) in
-    re-homing (s .args .territory) (s .args .update) (at-entry s) (test .before .before .if1 .left) (test .if2 .left) (k .re-home .ensures)
+    let other : ¬ (s .args .update .kind ≡ 1) = omega (arith, test .before .before .if1 .left) in
+    let another : ¬ (s .args .update .kind ≡ 2) = omega (arith, test .if2 .left) in
+    re-homing (s .args .territory) (s .args .update) (at-entry s) other another (k .re-home .ensures)
 
 pub take-update-spec : {M : Type 1} → statement M
 take-update-spec =

@@ -1,8 +1,6 @@
 -- `next_of` meets its contract, arm by arm. Assumes nothing.
-use mathlib.Core.Path.{sym, ap, _∙_}
-use Rattle.stream.specs.declared.Step.{Step}
-use Rattle.stream.specs.declared.Step.the-variants.{Expects}
-use Rattle.collector.specs.Running.{nextOf}
+use native.Mathlib.Omega.{arith}
+use Rattle.collector.proofs.Running.{next-refused, next-records, next-end, next-failure}
 use borrow.Author.Needs.{needs}
 use Rattle.collector.proofs.run.next_of.Statement.{statement}
 use Rattle.collector.proofs.run.next_of.Tie as tie
@@ -26,22 +24,19 @@ enum-told-4 : tie.Need-enum-told-4
 enum-told-4 c = search needs
 
 returns : tie.Need-returns
-returns c = sym (ap (λ (s : Step). nextOf s (c .before .before .before .args .after)) (c .before .step .given .1))
+returns c = next-refused (c .before .before .before .args .after) (c .before .step .given .1) (omega arith)
 
 returns-2 : tie.Need-returns-2
-returns-2 c =
-    let s = c .before .before .before .before .before in
-    let step = c .before .before .before .step2 .given in
-    sym (ap (λ (x : Step). nextOf x (s .args .after)) (step .1) ∙ ap (nextOf (Expects (step .0 .0))) (c .enum-told .given .1))
+returns-2 c = next-records (c .before .before .before .step2 .given .1) (c .enum-told .given .1) (omega arith)
 
 returns-3 : tie.Need-returns-3
-returns-3 c = search needs
+returns-3 c = next-end (c .before .before .before .step2 .given .1) (c .enum-told2 .given .1) (omega arith)
 
 returns-4 : tie.Need-returns-4
 returns-4 c = search needs
 
 returns-5 : tie.Need-returns-5
-returns-5 c = search needs
+returns-5 c = next-failure (c .before .before .before .step2 .given .1) (c .enum-told4 .given .1)
 
 pub next-of-spec : {M : Type 1} → statement M
 next-of-spec =

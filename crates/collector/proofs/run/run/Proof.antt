@@ -1,4 +1,5 @@
 -- `run` meets its contract: clear, then what was handed over, then the counts. Assumes nothing.
+use native.Mathlib.Omega.{arith}
 use Rattle.refusals.specs.Memory.{memory}
 use Rattle.updates.specs.Calls.{clear}
 use Rattle.collector.proofs.Running.{cleared-by, last-is}
@@ -42,7 +43,7 @@ returns c =
     let k = c .before .before .before .before .before .before .before .before .before .before .before .before .before in
     let m = memory (s .args .first .now) (s .args .long .now) (s .args .owners .now) (s .args .rules .now) in
     last-is m (s .pre) (cleared-by _ m (c .before .before .before .before .before .before .before .before .before .before .before .before .before .before .before .before .before .before .before .before .before .before .before .before .before .before .before .territory .ensures) (c .before .before .before .before .before .before .before .before .before .before .before .before .before .before .before .before .before .before .before .before .before .before .before .before .before .before .clear .ensures) (k .take-stream .ensures))
-    (c .before .before .before .live-prefixes .ensures) (c .before .open-segments .ensures) (c .last-of .ensures)
+    (c .last-of .ensures) (omega (arith, c .before .before .before .live-prefixes .ensures)) (omega (arith, c .before .open-segments .ensures))
 
 pub run-spec : {M : Type 1} → statement M
 run-spec =

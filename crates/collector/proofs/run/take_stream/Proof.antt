@@ -1,10 +1,11 @@
 -- `take_stream` meets its contract: what was handed over so far leads here; the measure is the number of turns that are left. Assumes nothing.
 use mathlib.Core.Path.{_≡_, refl}
+use native.Mathlib.Omega.{arith}
 use lib.ListN.{length}
 use Rattle.refusals.specs.Memory.{memory}
 use Rattle.collector.specs.declared.run.Next.the-variants.{Expects}
 use Rattle.collector.specs.Running.{Handed}
-use Rattle.collector.proofs.Running.{handed-none, handed-more, handed-as, handed-stops}
+use Rattle.collector.proofs.Running.{handed-none, handed-more, handed-as, handed-on, handed-end, handed-stops}
 use borrow.Author.Needs.{needs}
 use Rattle.collector.proofs.run.take_stream.Statement.{statement}
 use Rattle.collector.proofs.run.take_stream.Tie as tie
@@ -45,7 +46,7 @@ returns : tie.Need-returns Inv-loop μ-loop
 returns c =
     let k = c .before .before .before .before .before .before .before .before .before .before .before in
     let l = k .before .before .before .before .before .before in
-    handed-as (handed-more (l .loop .inv .4) (k .take-next .ensures)) (c .before .next2 .given .1)
+    handed-end (handed-more (l .loop .inv .4) (k .take-next .ensures)) (c .before .next2 .given .1) (omega arith)
 
 enum-told : tie.Need-enum-told Inv-loop μ-loop
 enum-told c = search needs
@@ -82,7 +83,7 @@ loop-again c =
       search needs,
       search needs,
       search needs,
-      handed-as (handed-more (l .loop .inv .4) (k .take-next .ensures)) (c .before .next .given .1),
+      handed-on (handed-more (l .loop .inv .4) (k .take-next .ensures)) (c .before .next .given .1) (omega arith),
     )
 
 same-length-9 : tie.Need-same-length-9 Inv-loop μ-loop
