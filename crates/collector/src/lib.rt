@@ -8,6 +8,7 @@ mod failures;
 mod input;
 mod output;
 mod run;
+mod waiting;
 
 use output::Last;
 
