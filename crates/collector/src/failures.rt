@@ -7,7 +7,7 @@ pub fn failed(what: &[u8]) -> bool {
         return false;
     }
     if error == libc::EAGAIN {
-        libc::sched_yield();
+        crate::waiting::pause();
         return false;
     }
     os::fail(what);
