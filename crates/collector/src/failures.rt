@@ -1,4 +1,5 @@
 // What becomes of a read or a write that moved nothing.
+use crate::waiting;
 
 // One that was interrupted, or has nothing or no room yet, is made again; any other failure is said. Answers whether it failed.
 pub fn failed(what: &[u8]) -> bool {
@@ -7,7 +8,7 @@ pub fn failed(what: &[u8]) -> bool {
         return false;
     }
     if error == libc::EAGAIN {
-        crate::waiting::pause();
+        waiting::pause();
         return false;
     }
     os::fail(what);
