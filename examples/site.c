@@ -32,6 +32,7 @@ int main(int argc, char **argv) {
         printf("update %u: code %u, %u cells\n", u.serial, report.code, report.cells);
         expected = u.serial + 1;
     }
+    if (ferror(stdin)) return perror("site: standard input"), 1;
 
     for (int i = 1; i < argc; i++) {
         unsigned a, b, c, d;
@@ -43,5 +44,6 @@ int main(int argc, char **argv) {
         else printf("%s: %s\n", argv[i], number >> 16 == 8 ? "no route" : "refused");
     }
     free(first), free(segments), free(owners), free(rules);
+    if (fflush(stdout) != 0) return perror("site: standard output"), 1;
     return 0;
 }
