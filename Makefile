@@ -14,7 +14,8 @@ CFLAGS = -std=c99 -O1 -Wall -Wextra -pedantic -Iinclude
 
 run:
 	@[ -x $(PROGRAM) ] || echo 'make run: the program is proved and built first; that takes some minutes' >&2
-	@$(MAKE) --no-print-directory program
+	@mkdir -p target
+	@$(MAKE) --no-print-directory program >target/run.log 2>&1 || { tail -20 target/run.log; exit 1; }
 	@tools/x86-run $(PROGRAM) <examples/records
 
 # The order matters: rt ci removes target/, and its own last line is to be the last one.
