@@ -7,6 +7,9 @@
  *   long_table   256 * S cells of 32 bits, S from 0 to 32,768: segment k is cells 256k to 256k + 255
  *   owners       S words of 32 bits, one for each segment
  *   rules        R words of 64 bits, R from 0 to 65,536, one for each live prefix
+ *   octets       RK_WORDS words of 64 bits, one for each hop: what was carried; word 0 takes what has no route
+ *   cents        RK_WORDS words of 64 bits, one for each hop: what it costs; word 0 is not read
+ *   hops         RK_HOPS words of 32 bits: room for the cost sheet
  *
  * Each pointer is followed by how many elements are lent there. What is lent stays the caller's, and a call touches nothing else. A
  * pointer is aligned as its type asks and not null (also where 0 elements are lent), and the lent arrays of one call do not overlap.
@@ -17,10 +20,11 @@
  *
  * Answers. 0 is success. Any other number is a refusal, and a refused call writes nothing and answers hop 0, cells 0, an all-zero update:
  *
- *    1  base_length above 24, base has bits after it, or a lent size is not as above           every call on tables
- *    2  length above 32, address bits set after the length, or a hop outside 1 to 32,767       updates (the hop: announce, re-home)
- *    3  address not in the territory; prefix shorter than the territory or not inside it       look up, updates
- *    4  damage: the lent words contradict themselves where the call looks                      look up, updates
+ *    1  base_length above 24, base has bits after it, or a lent size is not as above           every call on lent words
+ *    2  length above 32, address bits set after the length, or a hop outside 1 to 32,767       updates (the hop: announce, re-home);
+ *                                                                                              cost line (the hop)
+ *    3  address not in the territory; prefix shorter than the territory or not inside it       look up, book, updates
+ *    4  damage: the lent words contradict themselves where the call looks                      look up, book, updates
  *    5  prefix not live                                                                        withdraw, re-home
  *    6  prefix not live and no rule word is free                                               announce
  *    7  a prefix longer than 24 needs a segment and none is free                               announce
@@ -32,14 +36,16 @@
  *   24  the serial is not the expected one                                                     read
  *   25  a withdraw with a hop                                                                  read, write
  *   26  fewer than 15 bytes of room                                                            write
+ *   30  a word of octets would pass 2^53 (book), or has passed it (cost line, cost sheet)
+ *   31  a word of cents has passed 2^53                                                        cost line, cost sheet
  *
- * Where several hold, the first in the order of the tests is answered: 1, 2, 3, 4, 5, 6, 7, 8; 20, 21, 22, 23, 24, 25, with the 15 bytes
- * of 20 tested after 21; 26, 23, 25.
+ * Where several hold, the first in the order of the tests is answered: 1, 2, 3, 4, 5, 6, 7, 8, 30, 31; 20, 21, 22, 23, 24, 25, with the
+ * 15 bytes of 20 tested after 21; 26, 23, 25.
  *
  * The library is x86-64 code.
  *
- * At the same time. A call that only reads (rk_look_up, rk_look_up_all, rk_read_record) may run beside others that only read the same
- * memory. A call that writes must have the memory that it writes to itself.
+ * At the same time. A call may run beside others that only read the same memory, as far as it only reads it: rk_look_up, rk_look_up_all,
+ * rk_book and rk_book_all the tables, rk_cost_line and rk_cost_sheet the octets and cents. What a call writes it must have to itself.
  */
 #ifndef RAKMOLTHI_H
 #define RAKMOLTHI_H
@@ -75,6 +81,20 @@ typedef struct {
     uint32_t code;
     rk_update update;
 } rk_reading;
+
+/* The words of octets and of cents, and the hop numbers of a cost sheet. */
+#define RK_WORDS 32768
+#define RK_HOPS 32767
+
+/*
+ * A line of the cost sheet. Code 0 and traffic 1: the rate holds, in cents for an octet. Code 0 and traffic 0: "no traffic", and rate 0 says
+ * nothing. Another code is a refusal, with traffic 0 and rate 0.
+ */
+typedef struct {
+    uint32_t code;
+    uint32_t traffic;
+    double rate;
+} rk_line;
 
 /* Sets all lent memory to 0: no prefix is live. Answers 0 or 1. */
 uint32_t rk_clear(uint32_t *first, size_t first_cells, uint32_t *long_table, size_t long_cells, uint32_t *owners, size_t owner_words,
@@ -117,6 +137,38 @@ rk_reading rk_read_record(const uint8_t *bytes, size_t count, uint32_t expected)
 
 /* Writes the record of an update into the first 15 bytes of the room, and no other. Refusals 26, 23, 25. */
 uint32_t rk_write_record(uint8_t *room, size_t count, rk_update update);
+
+/* Sets the words of octets to 0. Answers 0, or 1 for another number of words. */
+uint32_t rk_clear_octets(uint64_t *octets, size_t octet_words);
+
+/*
+ * Books a flow: looks the address up and adds the amount to the word of its hop, or to word 0 where there is no route. No word passes
+ * 2^53: where it would, the record is refused with 30. Refusals 1, 3, 4, 30; a refused record changes nothing.
+ */
+uint32_t rk_book(const uint32_t *first, size_t first_cells, const uint32_t *long_table, size_t long_cells, uint64_t *octets,
+                 size_t octet_words, uint32_t base, uint32_t base_length, uint32_t address, uint64_t amount);
+
+/*
+ * Books many flows, as rk_book would one after the other: codes[i] is its number for addresses[i] and amounts[i]. Answers 0; or 1, and
+ * writes nothing, where rk_book would answer 1 or the three counts differ.
+ */
+uint32_t rk_book_all(const uint32_t *first, size_t first_cells, const uint32_t *long_table, size_t long_cells, uint64_t *octets,
+                     size_t octet_words, uint32_t base, uint32_t base_length, const uint32_t *addresses, size_t address_count,
+                     const uint64_t *amounts, size_t amount_count, uint32_t *codes, size_t code_count);
+
+/*
+ * The line of a hop: its cents divided by its octets, as the double nearest to that fraction, or "no traffic" for 0 octets. A rate is never
+ * infinite and never not-a-number, at most 2^53, and 0 only for 0 cents. Refusals 1, 2, 30, 31; 30 and 31 by the words of this hop alone.
+ */
+rk_line rk_cost_line(const uint64_t *octets, size_t octet_words, const uint64_t *cents, size_t cent_words, uint32_t hop);
+
+/*
+ * The cost sheet: fills the room with the hops 1 to 32,767, dearest first. First the hops with cents and no octets, the most cents first;
+ * then those with octets, the highest rate first; then those with neither. A tie goes to the lower hop, and rates tie that are the same
+ * double. Refusals 1, 30, 31; 30 for any word of octets, word 0 too, and 31 for any word of cents but word 0.
+ */
+uint32_t rk_cost_sheet(const uint64_t *octets, size_t octet_words, const uint64_t *cents, size_t cent_words, uint32_t *hops,
+                       size_t hop_count);
 
 #ifdef __cplusplus
 }
