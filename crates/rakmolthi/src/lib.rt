@@ -3,10 +3,15 @@
 ghost use mathlib.Core.Path.{_≡_};
 ghost use Rattle.bulk.specs.All.{allOf};
 ghost use Rattle.cells.specs.Bytes.{lookUpBytes};
+ghost use Rattle.costs.specs.Lines.{lineOf, valuesOf};
+ghost use Rattle.costs.specs.Sheet.{SheetIs};
+ghost use Rattle.octets.specs.Booking.{clearOctets, book};
+ghost use Rattle.octets.specs.Many.{bookAll};
 ghost use Rattle.records.specs.Record.{readAs, Writes};
 ghost use Rattle.refusals.specs.Memory.{memory};
 ghost use Rattle.rules.specs.Words.{routeBy};
 ghost use Rattle.updates.specs.Calls.{announce, withdraw, reHome, clear, Meets};
+use costs::line::Values;
 use prefix::Prefix;
 use records::Reading;
 use records::Update;
@@ -142,4 +147,64 @@ pub extern "C" fn rk_write_record(room: &mut [u8], update: Update) -> u32
     ensures { λ r. ⌜ Writes (now (room .entry)) update r (now (room .exit)) ⌝ }
 {
     records::write(room, update)
+}
+
+#[no_mangle]
+pub extern "C" fn rk_clear_octets(octets: &mut [u64]) -> u32
+    ensures { λ r. ⌜ record { code = r; words = now (octets .exit) } ≡ clearOctets (now (octets .entry)) ⌝ }
+{
+    octets::clear_octets(octets)
+}
+
+#[no_mangle]
+pub extern "C" fn rk_book(
+    first: &[u32],
+    long_table: &[u32],
+    octets: &mut [u64],
+    base: u32,
+    base_length: u32,
+    address: u32,
+    amount: u64,
+) -> u32
+    ensures { λ r. ⌜ record { code = r; words = now (octets .exit) } ≡ book (now (first .entry)) (now («long_table» .entry)) (record { address = base; length = «base_length» }) address amount (now (octets .entry)) ⌝ }
+{
+    let territory = Prefix {
+        address: base,
+        length: base_length,
+    };
+    octets::book(first, long_table, octets, territory, address, amount)
+}
+
+#[no_mangle]
+pub extern "C" fn rk_book_all(
+    first: &[u32],
+    long_table: &[u32],
+    octets: &mut [u64],
+    base: u32,
+    base_length: u32,
+    addresses: &[u32],
+    amounts: &[u64],
+    codes: &mut [u32],
+) -> u32
+    ensures { λ r. ⌜ record { code = r; words = now (octets .exit); codes = now (codes .exit) } ≡ bookAll (now (first .entry)) (now («long_table» .entry)) (record { address = base; length = «base_length» }) (now (addresses .entry)) (now (amounts .entry)) (now (codes .entry)) (now (octets .entry)) ⌝ }
+{
+    let territory = Prefix {
+        address: base,
+        length: base_length,
+    };
+    octets::book_all(first, long_table, octets, territory, addresses, amounts, codes)
+}
+
+#[no_mangle]
+pub extern "C" fn rk_cost_line(octets: &[u64], cents: &[u64], hop: u32) -> Values
+    ensures { λ r. ⌜ r ≡ valuesOf (lineOf (now (octets .entry)) (now (cents .entry)) hop) ⌝ }
+{
+    costs::line::values_of(costs::line::cost_line(octets, cents, hop))
+}
+
+#[no_mangle]
+pub extern "C" fn rk_cost_sheet(octets: &[u64], cents: &[u64], hops: &mut [u32]) -> u32
+    ensures { λ r. ⌜ SheetIs (now (octets .entry)) (now (cents .entry)) (now (hops .entry)) r (now (hops .exit)) ⌝ }
+{
+    costs::sheet::cost_sheet(octets, cents, hops)
 }

@@ -1,0 +1,2 @@
+-- What a site's octets are charged to.
+pub mod Charges

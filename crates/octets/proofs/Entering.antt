@@ -1,0 +1,164 @@
+-- What booking by an answer of look up answers and leaves, one law for each way out; and what an answer of look up names. Assumes nothing.
+use mathlib.Core.Path.{_≡_, refl, sym, ap, _∙_}
+use mathlib.Core.Bool.{Bool, true, false, cond, _&&_}
+use mathlib.Core.List.{List, _++_, append-nil}
+use Prim.Native.Nat.{ℕ, _+_, _/_, _%_, _≤_, _<_}
+use native.Mathlib.Omega.{arith}
+use lib.Dec.{ltb, eqb, leb, lit<}
+use lib.ListN.{length, getD, set, drop, replicate, length-set, drop-of-length-le}
+use Rattle.ground.proofs.Tests.{Decides, holds, fails, leb?, eqb?, and?, iff?, cond-on, cond-off, by-test}
+use Rattle.ground.proofs.Cases.{by-eq}
+use Rattle.prefix.specs.declared.Prefix.{Prefix}
+use Rattle.prefix.specs.Prefixes.{contains}
+use Rattle.cells.specs.declared.look.Answer.{Answer}
+use Rattle.cells.specs.Cells.{empty, hopOf, isPointer, segmentOf}
+use Rattle.cells.specs.Lookup.{refused as no-hop, found, lentToRead, verdictOf, saysOf, lookUp}
+use Rattle.cells.proofs.Direct.{Direct, isDirect?}
+use Rattle.octets.specs.Words.{wordCount, most}
+use Rattle.octets.specs.Booking.{Outcome, refused, clearOctets, addTo, refusalOf, enter, book}
+use Rattle.octets.specs.Bookings.{names}
+
+-- ---- clear
+
+pub not-cleared : (words : List ℕ) → (length words ≡ wordCount → ⊥) → refused 1 words ≡ clearOctets words
+unfolding clearOctets
+not-cleared words n = sym (cond-off _ _ (eqb? (length words) wordCount) n)
+
+pub all-cleared : (before words : List ℕ) → length before ≡ wordCount → (i : ℕ) → i ≡ wordCount → words ≡ replicate i 0 ++ drop i before
+    → record { code = 0; words = words } ≡ clearOctets before
+unfolding clearOctets
+all-cleared before words l i e h =
+    ap (λ (x : List ℕ). record { code = 0; words = x }) (h ∙ ap (λ (k : ℕ). replicate k 0 ++ drop k before) e
+    ∙ ap (λ (x : List ℕ). replicate wordCount 0 ++ x) (drop-of-length-le before {i = wordCount} (omega arith)) ∙ append-nil (replicate wordCount 0))
+    ∙ sym (cond-on _ _ (eqb? (length before) wordCount) l)
+
+-- ---- the ways out
+
+module _ (answer : Answer) (amount : ℕ) (words : List ℕ) where
+  pub turned-away : {r : ℕ} → r ≡ refusalOf (answer .code) → (r ≡ 0 → ⊥) → refused r words ≡ enter answer amount words
+  unfolding enter
+  turned-away e n =
+      ap (λ (k : ℕ). refused k words) e ∙ sym (cond-off _ _ (eqb? (refusalOf (answer .code)) 0) (λ z. n (e ∙ z)))
+
+  module _ (z : refusalOf (answer .code) ≡ 0) where
+    pub too-much : most < getD words (answer .hop) 0 + amount → refused 30 words ≡ enter answer amount words
+    unfolding enter addTo
+    too-much h =
+        sym (cond-on _ _ (eqb? (refusalOf (answer .code)) 0) z ∙ cond-off _ _ (leb? (getD words (answer .hop) 0 + amount) most) (λ l. omega arith))
+
+    pub entered : getD words (answer .hop) 0 + amount ≤ most
+        → record { code = 0; words = set words (answer .hop) (getD words (answer .hop) 0 + amount) } ≡ enter answer amount words
+    unfolding enter addTo
+    entered h = sym (cond-on _ _ (eqb? (refusalOf (answer .code)) 0) z ∙ cond-on _ _ (leb? (getD words (answer .hop) 0 + amount) most) h)
+
+module _ (first long : List ℕ) (t : Prefix) (a amount : ℕ) (words : List ℕ) where
+  pub wrong-words : (length words ≡ wordCount → ⊥) → refused 1 words ≡ book first long t a amount words
+  unfolding book
+  wrong-words n = sym (cond-off _ _ (eqb? (length words) wordCount) n)
+
+  pub booked : length words ≡ wordCount → {r : Answer} {o : Outcome} → r ≡ lookUp first long t a → o ≡ enter r amount words → o ≡ book first long t a amount words
+  unfolding book
+  booked l e h = h ∙ ap (λ (x : Answer). enter x amount words) e ∙ sym (cond-on _ _ (eqb? (length words) wordCount) l)
+
+-- ---- what an answer of look up names
+
+-- a refusal has no hop, and what is no refusal has one
+pub record Told (r : Answer) : Type 0 where
+  pub refusal : (r .code ≡ 0 → ⊥) → r .hop ≡ 0
+  pub route : r .code ≡ 0 → 0 < r .hop
+
+told-refused : (code : ℕ) → 0 < code → Told (no-hop code)
+told-refused code h = record { refusal = λ n. refl; route = λ e. absurd (omega arith) }
+
+told-cond : (t : Bool) {x y : Answer} → Told x → Told y → Told (cond t x y)
+told-cond true p q = p
+told-cond false p q = q
+
+told-verdict : (longest cell : ℕ) → Told (verdictOf longest cell)
+unfolding verdictOf
+told-verdict longest cell = told-cond (eqb cell empty) (told-refused 8 (lit< tt)) (go (isDirect? longest cell))
+  where
+    go : {t : Bool} → Decides (Direct longest cell) t → Told (cond t (found (hopOf cell)) (no-hop 4))
+    go (holds d) = record { refusal = λ n. absurd (n refl); route = λ e. d .some-hop }
+    go (fails n) = told-refused 4 (lit< tt)
+
+told-says : (long : List ℕ) (low cell : ℕ) → Told (saysOf long low cell)
+unfolding saysOf
+told-says long low cell =
+    told-cond (isPointer cell)
+    (told-cond (ltb (segmentOf cell) (length long / 256)) (told-verdict 32 _) (told-refused 4 (lit< tt)))
+    (told-verdict 24 cell)
+
+pub told-look : (first long : List ℕ) (t : Prefix) (a : ℕ) → Told (lookUp first long t a)
+unfolding lookUp
+told-look first long t a =
+    told-cond (lentToRead (length first) (length long) t)
+    (told-cond (contains t a) (told-says long (a % 256) _) (told-refused 3 (lit< tt)))
+    (told-refused 1 (lit< tt))
+
+-- a code that refuses no record is 0 or 8
+pub no-refusal : {C : Type 0} (code : ℕ) → refusalOf code ≡ 0 → (code ≡ 0 → C) → (code ≡ 8 → C) → C
+unfolding refusalOf
+no-refusal code z zero eight = by-eq code 8 eight (λ n. zero (sym (cond-off 0 code (eqb? code 8) n) ∙ z))
+
+-- the word that an answer names is that of its hop
+pub names? : (r : Answer) → Told r → refusalOf (r .code) ≡ 0 → (h : ℕ) → Decides (h ≡ r .hop) (names r h)
+names? r T z h =
+    no-refusal (r .code) z
+    (λ e. go h (eqb? h 0) (routed e))
+    (λ e. go h (eqb? h 0) (unrouted e))
+  where
+    go : (k : ℕ) {t : Bool} → Decides (k ≡ 0) t
+        → ((k ≡ 0 → Decides (k ≡ r .hop) (eqb (r .code) 8)) × ((k ≡ 0 → ⊥) → Decides (k ≡ r .hop) (eqb (r .code) 0 && eqb (r .hop) k)))
+        → Decides (k ≡ r .hop) (cond t (eqb (r .code) 8) (eqb (r .code) 0 && eqb (r .hop) k))
+    go k (holds q) f = f .0 q
+    go k (fails n) f = f .1 n
+
+    routed : r .code ≡ 0 → (h ≡ 0 → Decides (h ≡ r .hop) (eqb (r .code) 8)) × ((h ≡ 0 → ⊥) → Decides (h ≡ r .hop) (eqb (r .code) 0 && eqb (r .hop) h))
+    routed e =
+        (λ q. iff? (eqb? (r .code) 8) (λ f. absurd (omega arith)) (λ p. absurd (omega (arith, T .route e))),
+        λ n. iff? (and? (eqb? (r .code) 0) (eqb? (r .hop) h)) (λ p. sym (p .1)) (λ p. (e, sym p)))
+
+    unrouted : r .code ≡ 8 → (h ≡ 0 → Decides (h ≡ r .hop) (eqb (r .code) 8)) × ((h ≡ 0 → ⊥) → Decides (h ≡ r .hop) (eqb (r .code) 0 && eqb (r .hop) h))
+    unrouted e =
+        let n0 : r .code ≡ 0 → ⊥ = λ q. omega arith in
+        (λ q. iff? (eqb? (r .code) 8) (λ f. q ∙ sym (T .refusal n0)) (λ p. e),
+        λ n. iff? (and? (eqb? (r .code) 0) (eqb? (r .hop) h)) (λ p. absurd (n0 (p .0))) (λ p. absurd (n (p ∙ T .refusal n0))))
+
+-- ---- one booking, by what it does to the words
+
+-- accepted: no refusal of look up's, and the word of its hop took the amount; refused: the words are as they were
+pub data Did (r : Answer) (amount : ℕ) (words : List ℕ) : Outcome → Type 0 where
+  took : refusalOf (r .code) ≡ 0 → getD words (r .hop) 0 + amount ≤ most
+      → Did r amount words (record { code = 0; words = set words (r .hop) (getD words (r .hop) 0 + amount) })
+  left : (code : ℕ) → (code ≡ 0 → ⊥) → Did r amount words (refused code words)
+
+pub did-enter : (r : Answer) (amount : ℕ) (words : List ℕ) → Did r amount words (enter r amount words)
+unfolding enter addTo
+did-enter r amount words = go (eqb? (refusalOf (r .code)) 0) (leb? (getD words (r .hop) 0 + amount) most)
+  where
+    go : {s t : Bool} → Decides (refusalOf (r .code) ≡ 0) s → Decides (getD words (r .hop) 0 + amount ≤ most) t
+        → Did r amount words (cond s
+        (cond t (record { code = 0; words = set words (r .hop) (getD words (r .hop) 0 + amount) }) (refused 30 words))
+        (refused (refusalOf (r .code)) words))
+    go (holds z) (holds l) = took z l
+    go (holds z) (fails n) = left 30 (λ e. omega arith)
+    go (fails n) d = left (refusalOf (r .code)) n
+
+pub did-book : (first long : List ℕ) (t : Prefix) (a amount : ℕ) (words : List ℕ)
+    → Did (lookUp first long t a) amount words (book first long t a amount words)
+unfolding book
+did-book first long t a amount words = go (eqb? (length words) wordCount)
+  where
+    go : {s : Bool} → Decides (length words ≡ wordCount) s
+        → Did (lookUp first long t a) amount words (cond s (enter (lookUp first long t a) amount words) (refused 1 words))
+    go (holds e) = did-enter (lookUp first long t a) amount words
+    go (fails n) = left 1 (λ e. omega arith)
+
+-- no booking changes how many words there are
+pub did-long : {r : Answer} {amount : ℕ} {words : List ℕ} {o : Outcome} → Did r amount words o → length (o .words) ≡ length words
+did-long {r} {amount} {words} (took z l) = length-set words (r .hop) (getD words (r .hop) 0 + amount)
+did-long (left code n) = refl
+
+pub enter-long : (r : Answer) (amount : ℕ) (words : List ℕ) {o : Outcome} → o ≡ enter r amount words → length (o .words) ≡ length words
+enter-long r amount words e = ap (λ (x : Outcome). length (x .words)) e ∙ did-long (did-enter r amount words)

@@ -1,0 +1,36 @@
+-- `book` meets its contract: look up answers, and its answer is entered. Assumes nothing.
+use mathlib.Core.Path.{ap}
+use native.Mathlib.Omega.{arith}
+use borrow.Author.Needs.{needs}
+use denote.Ref.{now}
+use Rattle.cells.specs.declared.look.Answer.{Answer}
+use Rattle.cells.proofs.Answers.{small-look}
+use Rattle.octets.proofs.Entering.{wrong-words, booked}
+use Rattle.octets.proofs.book.Statement.{statement}
+use Rattle.octets.proofs.book.Tie as tie
+
+returns : tie.Need-returns
+returns c =
+    let s = c .before .before .before .before .args in
+    wrong-words (now (s .first)) (now (s .long)) (s .territory) (s .address) (s .amount) (now (s .octets)) (λ e. omega (arith, c .if1 .taken))
+
+look-up-requires : tie.Need-look-up-requires
+look-up-requires c κs = search needs
+
+enter-requires : tie.Need-enter-requires
+enter-requires c κs =
+    let s = c .before .before .before .before .before .before .args in
+    let said = c .before .look-up .ensures in
+    (omega (arith, c .before .before .if1 .left), omega (arith, ap (λ (r : Answer). r .hop) said, small-look (now (s .first)) (now (s .long)) (s .territory) (s .address) .hop))
+
+same-length : tie.Need-same-length
+same-length c = search needs
+
+returns-2 : tie.Need-returns-2
+returns-2 c =
+    let s = c .before .before .before .before .before .before .before .before .before .args in
+    booked (now (s .first)) (now (s .long)) (s .territory) (s .address) (s .amount) (now (s .octets)) (omega (arith, c .before .before .before .before .before .if1 .left))
+    (c .before .before .before .before .look-up .ensures) (c .before .before .enter .ensures)
+
+pub book-spec : {M : Type 1} → statement M
+book-spec = tie.close (tie.spec returns look-up-requires enter-requires same-length returns-2)
