@@ -1,0 +1,2 @@
+-- The words of octets, and what booking a flow answers and leaves.
+pub mod Words
