@@ -15,7 +15,7 @@ use Rattle.costs.specs.Lines.{rateOf}
 use Rattle.costs.specs.Ranks.{Sound, classOf, dearer, ahead, broken, wordOf, before}
 use Rattle.costs.specs.Order.{Order}
 use Rattle.ground.proofs.Cases.{by-lt, by-eq, by-cmp}
-use Rattle.ground.proofs.Tests.{Decides, holds, fails, ltb?, says, passes, iff?}
+use Rattle.ground.proofs.Tests.{Decides, holds, fails, ltb?, says, passes, stops, iff?}
 use Rattle.costs.proofs.Rates.{plain, lt-is, rate-plain}
 
 -- ---- classes
@@ -43,7 +43,7 @@ module _ (o c : ℕ) where
 -- ---- `ahead`, by the classes
 
 module _ (o c o′ c′ : ℕ) where
-  ahead-lower : classOf o c < classOf o′ c′ → ahead o c o′ c′ ≡ true
+  pub ahead-lower : classOf o c < classOf o′ c′ → ahead o c o′ c′ ≡ true
   unfolding ahead
   ahead-lower h = ap (λ (t : Bool). cond t true (cond (ltb (classOf o′ c′) (classOf o c)) false (dearer (classOf o c) o c o′ c′))) (lt-ltb (classOf o c) (classOf o′ c′) h)
 
@@ -224,7 +224,7 @@ unfolding wordOf
 word-small ws s zero = zero-le
 word-small ws s (suc h) = s (suc h) (suc-le-suc zero-le)
 
-word-is : (ws : List ℕ) (h : ℕ) → 0 < h → wordOf ws h ≡ getD ws h 0
+pub word-is : (ws : List ℕ) (h : ℕ) → 0 < h → wordOf ws h ≡ getD ws h 0
 unfolding wordOf
 word-is ws zero p = absurd (not-suc-le-zero p)
 word-is ws (suc h) p = refl
@@ -250,6 +250,15 @@ module _ (os cs : List ℕ) (l : Sound os cs) where
   pub before-order : Order (before os cs)
   unfolding before
   before-order = broken-order goes goes-once goes-between
+
+  -- of two hops in order the second does not go ahead of the first; and where the first does not either, it has the lower number
+  pub in-order : (a b : ℕ) → before os cs a b ≡ true → (goes b a ≡ false) × (goes a b ≡ false → a < b)
+  unfolding before
+  in-order a b h = go (if-broken a b (goes a b) (goes b a) h)
+    where
+      go : (goes a b ≡ true) ⊎ ((goes a b ≡ false) × ((goes b a ≡ false) × (a < b))) → (goes b a ≡ false) × (goes a b ≡ false → a < b)
+      go (inl g) = (stops (at? b a) (λ k. one-way _ _ _ _ _ _ (says (at? a b) g) k), λ f. absurd (true≢false (sym g ∙ f)))
+      go (inr g) = (g .1 .0, λ f. g .1 .1)
 
 -- the order of two hops, by the words that the code reads
 pub by-words : {r : Bool} (os cs : List ℕ) (a b : ℕ) → 0 < a → 0 < b

@@ -13,10 +13,11 @@ use lib.Ieee.Fits.{down-pos, and-l}
 use lib.Ieee.Exact.{HasValue}
 use lib.Ieee.Back.{round-whole}
 use lib.Ieee.Order.{round-mono}
-use lib.Ieee.Scale.{round-same}
+use lib.Ieee.Scale.{finite, round-same}
 use lib.Ieee.Positive.{positive, between, num, den}
 use borrow.Author.Tests.{ne-eqb, le-ltb}
-use Rattle.costs.specs.Lines.{rateOf}
+use Rattle.ground.proofs.Cases.{by-lt}
+use Rattle.costs.specs.Lines.{rateOf, RateSays}
 
 -- ---- the casts lose nothing
 
@@ -85,6 +86,11 @@ positive-plain (inf s) p = absurd p
 positive-plain (fin true m e) p = absurd p
 positive-plain (fin false m e) p = tt
 
+plain-finite : (x : Float) → T (plain x) → T (finite x)
+plain-finite nan p = absurd p
+plain-finite (inf s) p = absurd p
+plain-finite (fin s m e) p = tt
+
 -- two such values compare as fractions do
 pub lt-is : (x y : Float) → T (plain x) → T (plain y) → lt x y ≡ ltb (num x * den y) (num y * den x)
 unfolding lt
@@ -138,14 +144,38 @@ module _ (o c : ℕ) (ho : 0 < o) (lo : o ≤ 2 ^ 53) (lc : c ≤ 2 ^ 53) where
   pub rate-plain : T (plain (rateOf o c))
   rate-plain = subst (λ (y : Float). T (plain y)) (sym once) (rounded-plain (eq-zero-or-pos c))
 
--- a line with the larger fraction has no smaller rate: by `le`, and as the sort asks it
-module _ (o c o′ c′ : ℕ) (ho : 0 < o) (lo : o ≤ 2 ^ 53) (lc : c ≤ 2 ^ 53) (ho′ : 0 < o′) (lo′ : o′ ≤ 2 ^ 53) (lc′ : c′ ≤ 2 ^ 53) (h : c′ * o ≤ c * o′) where
-  pub rate-le : T (le (rateOf o′ c′) (rateOf o c))
-  rate-le = rw (once o′ c′ ho′ lo′ lc′, once o c ho lo lc) (round-mono binary64 c′ o′ c o ho′ ho h)
+  -- What is known of the rate of every line with traffic: it is the fraction cents / octets of whole numbers that are held exactly, rounded
+  -- once; a number, at most 2 ^ 53, and 0 only where there are no cents.
+  pub rate-says : RateSays o c (rateOf o c)
+  rate-says = record {
+    cents-kept = cast-value c lc;
+    octets-kept = cast-value o lo;
+    once = once;
+    finite = plain-finite (rateOf o c) rate-plain;
+    most = subst (λ (y : Float). T (le y (fin false 1 (pos 53)))) (sym once) most;
+    none = λ z. once ∙ none z;
+    some = λ h. subst (λ (y : Float). T (positive y)) (sym once) (some h);
+  }
 
-  pub rate-not-lt : lt (rateOf o c) (rateOf o′ c′) ≡ false
-  rate-not-lt =
+-- ---- two rates
+
+module _ (o c o′ c′ : ℕ) (ho : 0 < o) (lo : o ≤ 2 ^ 53) (lc : c ≤ 2 ^ 53) (ho′ : 0 < o′) (lo′ : o′ ≤ 2 ^ 53) (lc′ : c′ ≤ 2 ^ 53) where
+  -- Rounding keeps the order of the true rates: where c′ / o′ is at most c / o, so is its f64.
+  pub true-order : c′ * o ≤ c * o′ → T (le (rateOf o′ c′) (rateOf o c))
+  true-order h = rw (once o′ c′ ho′ lo′ lc′, once o c ho lo lc) (round-mono binary64 c′ o′ c o ho′ ho h)
+
+  -- Equal true rates are one f64.
+  pub true-tie : c′ * o ≡ c * o′ → rateOf o′ c′ ≡ rateOf o c
+  true-tie h = once o′ c′ ho′ lo′ lc′ ∙ (round-same binary64 false c′ o′ c o ho′ ho h ∙ sym (once o c ho lo lc))
+
+  not-above : c′ * o ≤ c * o′ → lt (rateOf o c) (rateOf o′ c′) ≡ false
+  not-above h =
       let p = rate-plain o c ho lo lc in
       let q = rate-plain o′ c′ ho′ lo′ lc′ in
       lt-is (rateOf o c) (rateOf o′ c′) p q
-      ∙ le-ltb (num (rateOf o c) * den (rateOf o′ c′)) (num (rateOf o′ c′) * den (rateOf o c)) (le-cross (rateOf o′ c′) (rateOf o c) q p rate-le)
+      ∙ le-ltb (num (rateOf o c) * den (rateOf o′ c′)) (num (rateOf o′ c′) * den (rateOf o c)) (le-cross (rateOf o′ c′) (rateOf o c) q p (true-order h))
+
+-- A rate that is above another as f64 is above it in true numbers: c / o is more than c′ / o′.
+pub truly-above : (o c o′ c′ : ℕ) → 0 < o → o ≤ 2 ^ 53 → c ≤ 2 ^ 53 → 0 < o′ → o′ ≤ 2 ^ 53 → c′ ≤ 2 ^ 53 → lt (rateOf o′ c′) (rateOf o c) ≡ true → c′ * o < c * o′
+truly-above o c o′ c′ ho lo lc ho′ lo′ lc′ e =
+    by-lt (c′ * o) (c * o′) (λ l. l) (λ g. absurd (true≢false (sym e ∙ not-above o′ c′ o c ho′ lo′ lc′ ho lo lc g)))

@@ -21,7 +21,7 @@ pub struct Values {
 }
 
 // Both numbers are at most 2^53, so their conversions lose nothing: one division, one rounding.
-pub fn rate(octets: u64, cents: u64) -> f64
+pub(crate) fn rate(octets: u64, cents: u64) -> f64
     requires { ⌜ (octets ≤ most) × (cents ≤ most) ⌝ }
     ensures { λ r. ⌜ r ≡ rateOf octets cents ⌝ }
 {

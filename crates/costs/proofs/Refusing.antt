@@ -1,0 +1,87 @@
+-- When the sheet is refused: what its tests decide, and the outcome of each way out. Assumes nothing.
+use mathlib.Core.Path.{_≡_, refl, sym, ap, _∙_}
+use mathlib.Core.Bool.{_&&_}
+use mathlib.Core.List.{List, [], _∷_}
+use Prim.Native.Nat.{ℕ, zero, suc, _+_, _-_, _≤_, zero-le}
+use native.Mathlib.Omega.{arith}
+use lib.Dec.{eqb}
+use lib.ListN.{length, getD, drop}
+use lib.Seq.{getD-drop}
+use Rattle.octets.specs.Words.{wordCount, most}
+use Rattle.ground.proofs.Tests.{Decides, holds, leb?, eqb?, and?, iff?, cond-on, cond-off, by-test}
+use Rattle.costs.specs.Ranks.{Sound}
+use Rattle.costs.specs.Sheet.{Ranked, within, sheetCode, SheetIs}
+use Rattle.costs.proofs.Heaps.{place}
+
+-- ---- the words
+
+-- no word from an index on has passed 2 ^ 53
+abbrev pub Small : ℕ → List ℕ → Type 0
+Small from words = (k : ℕ) → from ≤ k → getD words k 0 ≤ most
+
+all-within? : (words : List ℕ) → Decides ((k : ℕ) → getD words k 0 ≤ most) (within words)
+unfolding within
+all-within? [] = holds (λ k. zero-le)
+all-within? (w ∷ ws) = iff? (and? (leb? w most) (all-within? ws)) (λ h. both (h .0) (h .1)) (λ h. (h 0, λ k. h (suc k)))
+  where
+    both : w ≤ most → ((k : ℕ) → getD ws k 0 ≤ most) → (k : ℕ) → getD (w ∷ ws) k 0 ≤ most
+    both h t zero = h
+    both h t (suc k) = t k
+
+pub within? : (from : ℕ) (words : List ℕ) → Decides (Small from words) (within (drop from words))
+within? from words =
+    iff? (all-within? (drop from words))
+    (λ h k l. omega (arith, h (k - from), getD-drop from words (k - from) 0, place words (from + (k - from)) k (omega arith)))
+    (λ h k. omega (arith, h (from + k) (omega arith), getD-drop from words k 0))
+
+-- ---- the tests, and the ways out
+
+module _ (os cs hops : List ℕ) where
+  abbrev pub Sizes : Type 0
+  Sizes = ((length os ≡ wordCount) × (length cs ≡ wordCount)) × (length hops ≡ 32767)
+
+  sizes? : Decides Sizes (eqb (length os) wordCount && eqb (length cs) wordCount && eqb (length hops) 32767)
+  sizes? = and? (and? (eqb? (length os) wordCount) (eqb? (length cs) wordCount)) (eqb? (length hops) 32767)
+
+  code-1 : (Sizes → ⊥) → sheetCode os cs hops ≡ 1
+  unfolding sheetCode
+  code-1 n = cond-off _ _ sizes? n
+
+  code-30 : Sizes → (Small 0 os → ⊥) → sheetCode os cs hops ≡ 30
+  unfolding sheetCode
+  code-30 s n = cond-on _ _ sizes? s ∙ cond-off _ _ (within? 0 os) n
+
+  code-31 : Sizes → Small 0 os → (Small 1 cs → ⊥) → sheetCode os cs hops ≡ 31
+  unfolding sheetCode
+  code-31 s o n = cond-on _ _ sizes? s ∙ (cond-on _ _ (within? 0 os) o ∙ cond-off _ _ (within? 1 cs) n)
+
+  code-0 : Sizes → Small 0 os → Small 1 cs → sheetCode os cs hops ≡ 0
+  unfolding sheetCode
+  code-0 s o c = cond-on _ _ sizes? s ∙ (cond-on _ _ (within? 0 os) o ∙ cond-on _ _ (within? 1 cs) c)
+
+  pub refused-1 : (Sizes → ⊥) → SheetIs os cs hops 1 hops
+  refused-1 n = record { code-is = sym (code-1 n); refused = λ k. refl; filled = λ e. absurd (omega arith) }
+
+  pub refused-30 : Sizes → (Small 0 os → ⊥) → SheetIs os cs hops 30 hops
+  refused-30 s n = record { code-is = sym (code-30 s n); refused = λ k. refl; filled = λ e. absurd (omega arith) }
+
+  pub refused-31 : Sizes → Small 0 os → (Small 1 cs → ⊥) → SheetIs os cs hops 31 hops
+  refused-31 s o n = record { code-is = sym (code-31 s o n); refused = λ k. refl; filled = λ e. absurd (omega arith) }
+
+  pub filled-0 : {hops′ : List ℕ} → Sizes → Small 0 os → Small 1 cs → Ranked os cs hops′ → SheetIs os cs hops 0 hops′
+  filled-0 s o c r = record { code-is = sym (code-0 s o c); refused = λ n. absurd (n refl); filled = λ e. r }
+
+-- ---- what is not refused is sound
+
+pub tested : {os cs : List ℕ} → (length os ≡ wordCount) × (length cs ≡ wordCount) → Small 0 os → Small 1 cs → Sound os cs
+tested l o c = record { octets-long = l .0; cents-long = l .1; octets-small = λ h p. o h zero-le; cents-small = λ h p. c h p }
+
+pub sound : (os cs hops : List ℕ) → sheetCode os cs hops ≡ 0 → Sound os cs
+sound os cs hops e =
+    by-test (sizes? os cs hops)
+    (λ s. by-test (within? 0 os)
+    (λ o. by-test (within? 1 cs)
+    (λ c. tested (s .0) o c)
+    (λ n. absurd (omega (arith, code-31 os cs hops s o n))))
+    (λ n. absurd (omega (arith, code-30 os cs hops s n))))
+    (λ n. absurd (omega (arith, code-1 os cs hops n)))
