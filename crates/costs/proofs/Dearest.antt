@@ -33,7 +33,7 @@ pub record Dearer (octets cents : List ℕ) (a b : ℕ) : Type 0 where
   -- where it is not, the two rates are level, and a is the lower number
   pub ties : 0 < getD octets a 0 → 0 < getD octets b 0 → lt (rateAt octets cents b) (rateAt octets cents a) ≡ false → a < b
   -- with traffic on neither, a has no fewer cents
-  pub cents : getD octets a 0 ≡ 0 → getD octets b 0 ≡ 0 → getD cents b 0 ≤ getD cents a 0
+  pub no-traffic : getD octets a 0 ≡ 0 → getD octets b 0 ≡ 0 → getD cents b 0 ≤ getD cents a 0
   -- first cents without traffic, then traffic, then neither
   pub classes : classOf (getD octets a 0) (getD cents a 0) ≤ classOf (getD octets b 0) (getD cents b 0)
 
@@ -73,7 +73,7 @@ module _ (os cs : List ℕ) (l : Sound os cs) (a b : ℕ) (p : 0 < a) (q : 0 < b
     rates = λ x y. sym (by-rates ob cb oa ca (level x y) (class-rate ob cb (λ z. omega arith))) ∙ by-words .0;
     truly = λ x y e. truly-above oa ca ob cb x (l .octets-small a p) (l .cents-small a p) y (l .octets-small b q) (l .cents-small b q) e;
     ties = λ x y e. by-words .1 (by-rates oa ca ob cb (sym (level x y)) (class-rate oa ca (λ z. omega arith)) ∙ e);
-    cents = cents-fall;
+    no-traffic = cents-fall;
     classes = class-le;
   }
 

@@ -10,7 +10,7 @@ use Rattle.costs.specs.Ranks.{before, wordOf, ahead, classOf, dearer, br
 use Rattle.costs.specs.declared.line.Line.the-variants.{Rate, NoTraffic, Refused}
 
 -- 1 cent for 3 octets, and 2 cents for 6, are one rate: 6,004,799,503,160,661 / 2 ^ 54
-third : (wordsLine 3 1 ≡ Rate (fin false 6004799503160661 (negsuc 53))) × (wordsLine 6 2 ≡ wordsLine 3 1)
+third : (wordsLine 3 1 ≡ Rate (fin false 6004799503160661 (negsuc 53))) × (wordsLine 6 2 ≡ Rate (fin false 6004799503160661 (negsuc 53)))
 unfolding wordsLine div ofInt round
 third = (refl, refl)
 

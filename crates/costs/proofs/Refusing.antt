@@ -5,9 +5,10 @@ use mathlib.Core.List.{List, [], _∷_}
 use Prim.Native.Nat.{ℕ, zero, suc, _+_, _-_, _≤_, zero-le}
 use native.Mathlib.Omega.{arith}
 use lib.Dec.{eqb}
-use lib.ListN.{length, getD, drop}
+use lib.ListN.{length, getD, drop, List·getD-eq-default}
 use lib.Seq.{getD-drop}
 use Rattle.octets.specs.Words.{wordCount, most}
+use Rattle.ground.proofs.Cases.{by-eq}
 use Rattle.ground.proofs.Tests.{Decides, holds, leb?, eqb?, and?, iff?, cond-on, cond-off, by-test}
 use Rattle.costs.specs.Ranks.{Sound}
 use Rattle.costs.specs.Sheet.{Ranked, within, sheetCode, SheetIs}
@@ -18,6 +19,17 @@ use Rattle.costs.proofs.Heaps.{place}
 -- no word from an index on has passed 2 ^ 53
 abbrev pub Small : ℕ → List ℕ → Type 0
 Small from words = (k : ℕ) → from ≤ k → getD words k 0 ≤ most
+
+-- past the end there is none
+pub small-end : (words : List ℕ) (n : ℕ) → length words ≤ n → Small n words
+small-end words n h = λ k l. omega (arith, List·getD-eq-default words 0 (past k l))
+  where
+    past : (k : ℕ) → n ≤ k → length words ≤ k
+    past k l = omega arith
+
+-- one more
+pub small-more : (words : List ℕ) (n i : ℕ) → Small n words → n ≡ i + 1 → getD words i 0 ≤ most → Small i words
+small-more words n i s e h = λ k l. by-eq k i (λ f. omega (arith, place words k i f)) (λ d. s k (omega arith))
 
 all-within? : (words : List ℕ) → Decides ((k : ℕ) → getD words k 0 ≤ most) (within words)
 unfolding within
