@@ -118,7 +118,9 @@ module _ {os cs hops : List ℕ} (l : Sound os cs) (r : Ranked os cs hops) where
 -- One sheet: for one input the number and the order of all hops are determined.
 pub one-sheet : {os cs hops xs ys : List ℕ} {k m : ℕ} → SheetIs os cs hops k xs → SheetIs os cs hops m ys → (k ≡ m) × (xs ≡ ys)
 one-sheet {os} {cs} {hops} {xs} {ys} {k} {m} p q =
-    let e : k ≡ m = p .code-is ∙ sym (q .code-is) in
-    (e, by-eq k 0
-    (λ z. one-ranking (sound os cs hops (sym (p .code-is) ∙ z)) (p .filled z) (q .filled (sym e ∙ z)))
-    (λ n. p .refused n ∙ sym (q .refused (λ z. n (e ∙ z)))))
+    let e : k ≡ m = p .code-is ∙ sym (q .code-is) in (
+      e,
+      by-eq k 0
+          (λ z. one-ranking (sound os cs hops (sym (p .code-is) ∙ z)) (p .filled z) (q .filled (sym e ∙ z)))
+          (λ n. p .refused n ∙ sym (q .refused (λ z. n (e ∙ z)))),
+    )

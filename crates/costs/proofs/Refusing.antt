@@ -2,9 +2,9 @@
 use mathlib.Core.Path.{_≡_, refl, sym, ap, _∙_}
 use mathlib.Core.Bool.{_&&_}
 use mathlib.Core.List.{List, [], _∷_}
-use Prim.Native.Nat.{ℕ, zero, suc, _+_, _-_, _≤_, zero-le}
+use Prim.Native.Nat.{ℕ, zero, suc, _+_, _-_, _≤_, _<_, zero-le}
 use native.Mathlib.Omega.{arith}
-use lib.Dec.{eqb}
+use lib.Dec.{eqb, lit<}
 use lib.ListN.{length, getD, drop, List·getD-eq-default}
 use lib.Seq.{getD-drop}
 use Rattle.octets.specs.Words.{wordCount, most}
@@ -48,52 +48,66 @@ within? from words =
 
 -- ---- the tests, and the ways out
 
-module _ (os cs hops : List ℕ) where
-  abbrev pub Sizes : Type 0
-  Sizes = ((length os ≡ wordCount) × (length cs ≡ wordCount)) × (length hops ≡ 32767)
+abbrev Sizes : List ℕ → List ℕ → List ℕ → Type 0
+Sizes os cs hops = ((length os ≡ wordCount) × (length cs ≡ wordCount)) × (length hops ≡ 32767)
 
-  sizes? : Decides Sizes (eqb (length os) wordCount && eqb (length cs) wordCount && eqb (length hops) 32767)
+-- past all tests
+pub record Tested (os cs hops : List ℕ) : Type 0 where
+  pub sizes : Sizes os cs hops
+  pub octets : Small 0 os
+  pub cents : Small 1 cs
+
+module _ (os cs hops : List ℕ) where
+  sizes? : Decides (Sizes os cs hops) (eqb (length os) wordCount && eqb (length cs) wordCount && eqb (length hops) 32767)
   sizes? = and? (and? (eqb? (length os) wordCount) (eqb? (length cs) wordCount)) (eqb? (length hops) 32767)
 
-  code-1 : (Sizes → ⊥) → sheetCode os cs hops ≡ 1
+  code-1 : (Sizes os cs hops → ⊥) → sheetCode os cs hops ≡ 1
   unfolding sheetCode
   code-1 n = cond-off _ _ sizes? n
 
-  code-30 : Sizes → (Small 0 os → ⊥) → sheetCode os cs hops ≡ 30
+  code-30 : Sizes os cs hops → (Small 0 os → ⊥) → sheetCode os cs hops ≡ 30
   unfolding sheetCode
   code-30 s n = cond-on _ _ sizes? s ∙ cond-off _ _ (within? 0 os) n
 
-  code-31 : Sizes → Small 0 os → (Small 1 cs → ⊥) → sheetCode os cs hops ≡ 31
+  code-31 : Sizes os cs hops → Small 0 os → (Small 1 cs → ⊥) → sheetCode os cs hops ≡ 31
   unfolding sheetCode
   code-31 s o n = cond-on _ _ sizes? s ∙ (cond-on _ _ (within? 0 os) o ∙ cond-off _ _ (within? 1 cs) n)
 
-  code-0 : Sizes → Small 0 os → Small 1 cs → sheetCode os cs hops ≡ 0
+  code-0 : Tested os cs hops → sheetCode os cs hops ≡ 0
   unfolding sheetCode
-  code-0 s o c = cond-on _ _ sizes? s ∙ (cond-on _ _ (within? 0 os) o ∙ cond-on _ _ (within? 1 cs) c)
+  code-0 t = cond-on _ _ sizes? (t .sizes) ∙ (cond-on _ _ (within? 0 os) (t .octets) ∙ cond-on _ _ (within? 1 cs) (t .cents))
 
-  pub refused-1 : (Sizes → ⊥) → SheetIs os cs hops 1 hops
-  refused-1 n = record { code-is = sym (code-1 n); refused = λ k. refl; filled = λ e. absurd (omega arith) }
+  refused-as : (k : ℕ) → sheetCode os cs hops ≡ k → 0 < k → SheetIs os cs hops k hops
+  refused-as k e h = record { code-is = sym e; refused = λ n. refl; filled = λ z. absurd (omega arith) }
 
-  pub refused-30 : Sizes → (Small 0 os → ⊥) → SheetIs os cs hops 30 hops
-  refused-30 s n = record { code-is = sym (code-30 s n); refused = λ k. refl; filled = λ e. absurd (omega arith) }
+  pub refused-1 : (Sizes os cs hops → ⊥) → SheetIs os cs hops 1 hops
+  refused-1 n = refused-as 1 (code-1 n) (lit< tt)
 
-  pub refused-31 : Sizes → Small 0 os → (Small 1 cs → ⊥) → SheetIs os cs hops 31 hops
-  refused-31 s o n = record { code-is = sym (code-31 s o n); refused = λ k. refl; filled = λ e. absurd (omega arith) }
+  pub refused-30 : Sizes os cs hops → (Small 0 os → ⊥) → SheetIs os cs hops 30 hops
+  refused-30 s n = refused-as 30 (code-30 s n) (lit< tt)
 
-  pub filled-0 : {hops′ : List ℕ} → Sizes → Small 0 os → Small 1 cs → Ranked os cs hops′ → SheetIs os cs hops 0 hops′
-  filled-0 s o c r = record { code-is = sym (code-0 s o c); refused = λ n. absurd (n refl); filled = λ e. r }
+  pub refused-31 : Sizes os cs hops → Small 0 os → (Small 1 cs → ⊥) → SheetIs os cs hops 31 hops
+  refused-31 s o n = refused-as 31 (code-31 s o n) (lit< tt)
+
+pub filled-0 : {os cs hops hops′ : List ℕ} → Tested os cs hops → Ranked os cs hops′ → SheetIs os cs hops 0 hops′
+filled-0 {os} {cs} {hops} t r = record { code-is = sym (code-0 os cs hops t); refused = λ n. absurd (n refl); filled = λ e. r }
 
 -- ---- what is not refused is sound
 
-pub tested : {os cs : List ℕ} → (length os ≡ wordCount) × (length cs ≡ wordCount) → Small 0 os → Small 1 cs → Sound os cs
-tested l o c = record { octets-long = l .0; cents-long = l .1; octets-small = λ h p. o h zero-le; cents-small = λ h p. c h p }
+pub tested-sound : {os cs hops : List ℕ} → Tested os cs hops → Sound os cs
+tested-sound t = record {
+  octets-long = t .sizes .0 .0;
+  cents-long = t .sizes .0 .1;
+  octets-small = λ h p. t .octets h zero-le;
+  cents-small = λ h p. t .cents h p;
+}
 
 pub sound : (os cs hops : List ℕ) → sheetCode os cs hops ≡ 0 → Sound os cs
 sound os cs hops e =
     by-test (sizes? os cs hops)
     (λ s. by-test (within? 0 os)
     (λ o. by-test (within? 1 cs)
-    (λ c. tested (s .0) o c)
+    (λ c. tested-sound {hops = hops} (record { sizes = s; octets = o; cents = c }))
     (λ n. absurd (omega (arith, code-31 os cs hops s o n))))
     (λ n. absurd (omega (arith, code-30 os cs hops s n))))
     (λ n. absurd (omega (arith, code-1 os cs hops n)))

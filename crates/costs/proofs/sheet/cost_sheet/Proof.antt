@@ -1,8 +1,7 @@
 -- `cost_sheet` meets its contract: what the tests let pass is sound, and is sorted. Assumes nothing.
 use native.Mathlib.Omega.{arith}
-use Rattle.costs.specs.Ranks.{Sound}
 use Rattle.ground.proofs.Tests.{if-so, if-not}
-use Rattle.costs.proofs.Refusing.{Small, Sizes, within?, refused-1, refused-30, refused-31, filled-0, tested}
+use Rattle.costs.proofs.Refusing.{Tested, within?, refused-1, refused-30, refused-31, filled-0, tested-sound}
 use borrow.Author.Needs.{needs}
 use Rattle.costs.proofs.sheet.cost_sheet.Statement.{statement}
 use Rattle.costs.proofs.sheet.cost_sheet.Tie as tie
@@ -36,35 +35,29 @@ returns-5 c =
     (if-not (within? 1 (s .cents .now)) (c .before .within2 .ensures) (c .if5 .taken))
 
 -- past all tests
-octets-small : (k : tie.Else5) → Small 0 (k .before .before .before .before .before .before .before .before .before .before .args .octets .now)
-octets-small k = if-so (within? 0 _) (k .before .before .before .within .ensures) (k .before .before .if4 .left)
-
-cents-small : (k : tie.Else5) → Small 1 (k .before .before .before .before .before .before .before .before .before .before .args .cents .now)
-cents-small k = if-so (within? 1 _) (k .before .within2 .ensures) (k .if5 .left)
-
-sizes : (k : tie.Else5) → let s = k .before .before .before .before .before .before .before .before .before .before .args in Sizes (s .octets .now) (s .cents .now) (s .hops .now)
-sizes k = ((omega arith, omega arith), omega arith)
-
-sound : (k : tie.Else5) → let s = k .before .before .before .before .before .before .before .before .before .before .args in Sound (s .octets .now) (s .cents .now)
-sound k = tested (sizes k .0) (octets-small k) (cents-small k)
+tested : (k : tie.Else5) → let s = k .before .before .before .before .before .before .before .before .before .before .args in Tested (s .octets .now) (s .cents .now) (s .hops .now)
+tested k =
+    let s = k .before .before .before .before .before .before .before .before .before .before .args in
+    record {
+      sizes = ((omega arith, omega arith), omega arith);
+      octets = if-so (within? 0 (s .octets .now)) (k .before .before .before .within .ensures) (k .before .before .if4 .left);
+      cents = if-so (within? 1 (s .cents .now)) (k .before .within2 .ensures) (k .if5 .left);
+    }
 
 number-requires : tie.Need-number-requires
 number-requires c κs = search needs
 
 build-requires : tie.Need-build-requires
-build-requires c κs = (sound (c .before .before .before .before .before), c .before .before .before .number .ensures)
+build-requires c κs = (tested-sound (tested (c .before .before .before .before .before)), c .before .before .before .number .ensures)
 
 drain-requires : tie.Need-drain-requires
-drain-requires c κs = (sound (c .before .before .before .before .before .before .before .before .before), c .before .before .before .build .ensures)
+drain-requires c κs = (tested-sound (tested (c .before .before .before .before .before .before .before .before .before)), c .before .before .before .build .ensures)
 
 same-length : tie.Need-same-length
 same-length c = search needs
 
 returns-6 : tie.Need-returns-6
-returns-6 c =
-    let k = c .before .before .before .before .before .before .before .before .before .before .before .before in
-    let s = k .before .before .before .before .before .before .before .before .before .before .args in
-    filled-0 (s .octets .now) (s .cents .now) (s .hops .now) (sizes k) (octets-small k) (cents-small k) (c .before .before .drain .ensures)
+returns-6 c = filled-0 (tested (c .before .before .before .before .before .before .before .before .before .before .before .before)) (c .before .before .drain .ensures)
 
 pub cost-sheet-spec : {M : Type 1} → statement M
 cost-sheet-spec =
