@@ -1,6 +1,6 @@
 -- What the sheet says in finance's words: of two lines the earlier one costs no less, in the rates as f64 and in true numbers; cents without
 -- traffic stand before all traffic, and lines with neither after it. And one outcome only meets the sheet's contract. Assumes nothing.
-use mathlib.Core.Path.{_≡_, sym, ap, _∙_}
+use mathlib.Core.Path.{_≡_, refl, sym, ap, _∙_}
 use mathlib.Core.Bool.{true, false, true≢false}
 use mathlib.Core.List.{List}
 use Prim.Native.Nat.{ℕ, _*_, _≤_, _<_}
@@ -13,7 +13,6 @@ use Rattle.costs.specs.Ranks.{Sound, classOf, ahead, before}
 use Rattle.costs.specs.Sheet.{Ranked, SheetIs}
 use Rattle.ground.proofs.Cases.{by-lt, by-eq, by-cmp}
 use Rattle.costs.proofs.Rates.{truly-above}
-use Rattle.costs.proofs.Heaps.{place}
 use Rattle.costs.proofs.Counts.{hop-within}
 use Rattle.costs.proofs.Costs.{class-rate, class-cents, class-none, ahead-lower, by-rates, by-cents, word-is, in-order, before-order}
 use Rattle.costs.proofs.Unique.{ascends, one-ranking}
@@ -78,6 +77,10 @@ module _ (os cs : List ℕ) (l : Sound os cs) (a b : ℕ) (p : 0 < a) (q : 0 < b
   }
 
 -- ---- two places of the sheet
+
+-- A sheet that is not refused: each word is at most 2 ^ 53, and the hops are in order.
+pub answered : {os cs hops hops′ : List ℕ} → SheetIs os cs hops 0 hops′ → Sound os cs × Ranked os cs hops′
+answered {os} {cs} {hops} s = (sound os cs hops (sym (s .code-is)), s .filled refl)
 
 module _ {os cs hops : List ℕ} (l : Sound os cs) (r : Ranked os cs hops) where
   -- The dearest first: of two places of the sheet the earlier one holds the dearer hop.

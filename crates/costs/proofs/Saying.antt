@@ -39,7 +39,30 @@ module _ (o c : ℕ) where
   unfolding wordsLine
   words-rate l m n e = ap (λ (y : Float). Rate y) e ∙ sym (rw (le-leb o most l, le-leb c most m, ne-eqb o 0 n) refl)
 
--- ---- the line of a hop
+-- ---- the refusals
+
+abbrev pub Refusal : ℕ → Type 0
+Refusal k = (k ≡ 1) ⊎ ((k ≡ 2) ⊎ ((k ≡ 30) ⊎ (k ≡ 31)))
+
+-- no refusal, and both words are at most 2 ^ 53; or one of the four refusals
+abbrev pub Judged : ℕ → ℕ → ℕ → Type 0
+Judged o c k = ((k ≡ 0) × ((o ≤ most) × (c ≤ most))) ⊎ Refusal k
+
+words-code : (o c : ℕ) → Judged o c (wordsCode o c)
+words-code o c =
+    by-test (leb? o most)
+    (λ l. by-test (leb? c most)
+    (λ m. inl (cond-on _ _ (leb? o most) l ∙ cond-on _ _ (leb? c most) m, (l, m)))
+    (λ n. inr (inr (inr (inr (cond-on _ _ (leb? o most) l ∙ cond-off _ _ (leb? c most) n))))))
+    (λ n. inr (inr (inr (inl (cond-off _ _ (leb? o most) n)))))
+
+above-0 : (k : ℕ) → Refusal k → 0 < k
+above-0 k (inl e) = omega arith
+above-0 k (inr (inl e)) = omega arith
+above-0 k (inr (inr (inl e))) = omega arith
+above-0 k (inr (inr (inr e))) = omega arith
+
+-- ---- the line of a hop, and what it says
 
 module _ (os cs : List ℕ) (hop : ℕ) where
   sizes? : Decides ((length os ≡ wordCount) × (length cs ≡ wordCount)) (eqb (length os) wordCount && eqb (length cs) wordCount)
@@ -78,42 +101,18 @@ module _ (os cs : List ℕ) (hop : ℕ) where
   unfolding lineOf wordsLine
   line-words l h e = e ∙ sym (ap line (code-words l h))
 
--- ---- what a line says
-
-abbrev pub Refusal : ℕ → Type 0
-Refusal k = (k ≡ 1) ⊎ ((k ≡ 2) ⊎ ((k ≡ 30) ⊎ (k ≡ 31)))
-
--- no refusal, and both words are at most 2 ^ 53; or one of the four refusals
-abbrev pub Judged : ℕ → ℕ → ℕ → Type 0
-Judged o c k = ((k ≡ 0) × ((o ≤ most) × (c ≤ most))) ⊎ Refusal k
-
-words-code : (o c : ℕ) → Judged o c (wordsCode o c)
-words-code o c =
-    by-test (leb? o most)
-    (λ l. by-test (leb? c most)
-    (λ m. inl (cond-on _ _ (leb? o most) l ∙ cond-on _ _ (leb? c most) m, (l, m)))
-    (λ n. inr (inr (inr (inr (cond-on _ _ (leb? o most) l ∙ cond-off _ _ (leb? c most) n))))))
-    (λ n. inr (inr (inr (inl (cond-off _ _ (leb? o most) n)))))
-
-above-0 : (k : ℕ) → Refusal k → 0 < k
-above-0 k (inl e) = omega arith
-above-0 k (inr (inl e)) = omega arith
-above-0 k (inr (inr (inl e))) = omega arith
-above-0 k (inr (inr (inr e))) = omega arith
-
-module _ (os cs : List ℕ) (hop : ℕ) where
   -- A line is refused with 1, 2, 30 or 31, and else both words of its hop are at most 2 ^ 53.
   pub line-code : Judged (getD os hop 0) (getD cs hop 0) (lineCode os cs hop)
   line-code =
-      by-test (sizes? os cs hop)
-      (λ l. by-test (hop? os cs hop)
-      (λ h. subst (Judged (getD os hop 0) (getD cs hop 0)) (sym (code-words os cs hop l h)) (words-code (getD os hop 0) (getD cs hop 0)))
-      (λ n. inr (inr (inl (code-2 os cs hop l n)))))
-      (λ n. inr (inl (code-1 os cs hop n)))
+      by-test sizes?
+      (λ l. by-test hop?
+      (λ h. subst (Judged (getD os hop 0) (getD cs hop 0)) (sym (code-words l h)) (words-code (getD os hop 0) (getD cs hop 0)))
+      (λ n. inr (inr (inl (code-2 l n)))))
+      (λ n. inr (inl (code-1 n)))
 
   line-0 : lineCode os cs hop ≡ 0 → lineOf os cs hop ≡ lineBy (getD os hop 0) (getD cs hop 0)
   unfolding lineOf
-  line-0 e = ap (line os cs hop) e
+  line-0 e = ap line e
 
   line-refused : (lineCode os cs hop ≡ 0 → ⊥) → lineOf os cs hop ≡ Refused (lineCode os cs hop)
   unfolding lineOf
