@@ -67,7 +67,11 @@ typedef struct {
 
 #define LENT b->first, b->cells, b->segments, LONG_CELLS, b->owners, SEGMENTS, b->rules, RULES, b->base, b->length
 
-static int lend(books *b) {
+static int misused(const char *option, const char *what) {
+    return say("sheet: %s %s; rakmolthi sheet --help says more", option, what), MISUSED;
+}
+
+static int lend(books *b, const char *territory) {
     b->cells = (size_t)1 << (24 - b->length);
     b->first = calloc(b->cells, sizeof *b->first), b->segments = calloc(LONG_CELLS, sizeof *b->segments);
     b->owners = calloc(SEGMENTS, sizeof *b->owners), b->rules = calloc(RULES, sizeof *b->rules);
@@ -76,7 +80,7 @@ static int lend(books *b) {
     b->lines = calloc(RK_WORDS, sizeof *b->lines);
     if (!b->first || !b->segments || !b->owners || !b->rules || !b->octets || !b->cents || !b->hops || !b->names || !b->lines)
         return say("no memory");
-    if (rk_clear(LENT) != 0) return say("sheet: --territory has bits after its length; rakmolthi sheet --help says more"), MISUSED;
+    if (rk_clear(LENT) != 0) return misused(territory, "has bits after its length");
     if (rk_clear_octets(b->octets, RK_WORDS) != 0) return say("the memory lent has another size");
     return WHOLE;
 }
@@ -274,10 +278,6 @@ static int print_sheet(books *b, int csv, int all) {
 
 enum { TERRITORY, UPDATES, FLOWS, CENTS, CSV, ALL, OPTIONS };
 
-static int misused(const char *option, const char *what) {
-    return say("sheet: %s %s; rakmolthi sheet --help says more", option, what), MISUSED;
-}
-
 int sheet(int argc, char **argv) {
     static const char *const names[OPTIONS] = {"--territory", "--updates", "--flows", "--cents", "--csv", "--all"};
     char *values[OPTIONS] = {0}, *territory;
@@ -304,7 +304,7 @@ int sheet(int argc, char **argv) {
     b = calloc(1, sizeof *b);
     if (!b) return say("no memory");
     b->base = base, b->length = length;
-    status = lend(b);
+    status = lend(b, values[TERRITORY]);
     if (status == WHOLE) status = read_updates(b, values[UPDATES]);
     if (status == WHOLE) status = read_flows(b, values[FLOWS]);
     if (status == WHOLE) status = read_lines(b, values[CENTS], take_cents);
