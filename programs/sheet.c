@@ -222,9 +222,10 @@ static size_t make_rows(const books *b, row *rows, int csv, int all) {
     r++;
     for (int i = 0; i < RK_HOPS; i++) {
         uint32_t hop = b->hops[i];
-        rk_line line = rk_cost_line(b->octets, RK_WORDS, b->cents, RK_WORDS, hop);
-        if (line.code != 0) return say("the line of hop %u is refused with %u", (unsigned)hop, (unsigned)line.code), 0;
+        rk_line line;
         if (!all && b->octets[hop] == 0 && b->cents[hop] == 0) continue;
+        line = rk_cost_line(b->octets, RK_WORDS, b->cents, RK_WORDS, hop);
+        if (line.code != 0) return say("the line of hop %u is refused with %u", (unsigned)hop, (unsigned)line.code), 0;
         r->name = b->names[hop] ? b->names[hop] : "-";
         number_cell(r->hop, hop), number_cell(r->octets, b->octets[hop]), number_cell(r->cents, b->cents[hop]);
         if (line.traffic) snprintf(r->rate, sizeof r->rate, csv ? "%.17g" : "%.6g", line.rate);
