@@ -250,14 +250,15 @@ static void print_csv(const row *r) {
     printf(quoted ? "\",%s,%s,%s\n" : ",%s,%s,%s\n", r->octets, r->cents, r->rate);
 }
 
+static int wider(int width, size_t than) {
+    return (int)than > width ? (int)than : width;
+}
+
 static void print_text(const row *rows, size_t count) {
     int hop = 0, name = 0, octets = 0, cents = 0;
-#define WIDEN(width, of) if ((int)(of) > width) width = (of)
     for (const row *r = rows; r < rows + count; r++) {
-        WIDEN(hop, strlen(r->hop));
-        WIDEN(name, name_width(r->name));
-        WIDEN(octets, strlen(r->octets));
-        WIDEN(cents, strlen(r->cents));
+        hop = wider(hop, strlen(r->hop)), name = wider(name, name_width(r->name));
+        octets = wider(octets, strlen(r->octets)), cents = wider(cents, strlen(r->cents));
     }
     for (const row *r = rows; r < rows + count; r++)
         printf("%*s  %s%*s  %*s  %*s  %s\n", hop, r->hop, r->name, name - (int)name_width(r->name), "", octets, r->octets, cents,
