@@ -34,6 +34,7 @@ static const char help[] =
     "An update that the tables refuse changes nothing; how many were refused, by number, is said on standard error, and the run goes\n"
     "on. A flow is refused with 3 outside the territory, and with 30 where the octets of its hop would pass 2^53. A line that can't be\n"
     "read is named with its file and number, a record that can't be read with its place in the stream; then there is no sheet.\n"
+    "Where standard error is a terminal and the flows are many, a line there tells how many were read.\n"
     "Exit status: 0 where all input was read and the sheet is printed whole; 1 where not; 2 for a wrong command line.\n"
     "\n"
     "Flows come out of nfdump with plain numbers (-N), no header and summary (-q), and of IPv4 alone:\n"
