@@ -1,7 +1,8 @@
 # make run: the small program on the paper's records.     make test: every check there is; .ci/run calls it.
 # make install PREFIX=/usr/local                           make soak SECONDS=600 SEED=7: the independent check, for longer
+# make sheet: the cost sheet of the sample files.           make command: the command rakmolthi, as target/bin/rakmolthi
 # make bench: beside DPDK and plain C; no part of the gate  make valgrind: the C example under valgrind; no part of the gate either
-.PHONY: run test library program c-check streams example install soak bench valgrind clean
+.PHONY: run sheet test library program command c-check streams example command-check install soak bench valgrind clean
 
 PREFIX ?= /usr/local
 SECONDS ?= 600
@@ -9,6 +10,9 @@ SEED ?= 1
 
 LIBRARY = target/staticlib/librakmolthi.a
 PROGRAM = target/bin/collector
+COMMAND = target/bin/rakmolthi
+COMMAND_SOURCES = programs/rakmolthi.c programs/sheet.c programs/text.c
+SAMPLE = --territory 10.16.0.0/12 --updates examples/sheet/updates --flows examples/sheet/flows.txt --cents examples/sheet/cents.txt
 SOURCES = crates.txt $(shell find crates -name '*.rt')
 CFLAGS = -std=c99 -O1 -Wall -Wextra -pedantic -Iinclude
 
@@ -18,6 +22,12 @@ run:
 	@$(MAKE) --no-print-directory program >target/run.log 2>&1 || { tail -20 target/run.log; exit 1; }
 	@tools/x86-run $(PROGRAM) <examples/records
 
+sheet:
+	@[ -x $(COMMAND) ] || echo 'make sheet: the library is proved and the command built first; that takes some minutes' >&2
+	@mkdir -p target
+	@$(MAKE) --no-print-directory command >target/sheet.log 2>&1 || { tail -20 target/sheet.log; exit 1; }
+	@tools/x86-run $(COMMAND) sheet $(SAMPLE)
+
 # The order matters: rt ci removes target/, and its own last line is to be the last one.
 test:
 	@rt fmt --check
@@ -25,6 +35,7 @@ test:
 	@python3 check/test_model.py
 	@$(MAKE) --no-print-directory c-check
 	@$(MAKE) --no-print-directory example
+	@$(MAKE) --no-print-directory command-check
 	@$(MAKE) --no-print-directory streams
 	@rt ci
 
@@ -41,6 +52,12 @@ $(PROGRAM): programs/collector.c $(SOURCES)
 	@mkdir -p target/bin
 	@tools/x86-cc $(CFLAGS) -static -o $@ programs/collector.c target/staticlib/libcollector.a "$$(dirname "$$(dirname "$$(rt doc)")")/lib/libos_c.a"
 
+command: $(COMMAND)
+
+$(COMMAND): $(COMMAND_SOURCES) programs/text.h programs/words.h include/rakmolthi.h $(LIBRARY)
+	@mkdir -p target/bin
+	@tools/x86-cc $(CFLAGS) -static -o $@ $(COMMAND_SOURCES) $(LIBRARY)
+
 # The header alone, as C99 and as C++; then the library against the independent model, for about a minute.
 c-check: library
 	@tools/x86-cc $(CFLAGS) -x c -fsyntax-only include/rakmolthi.h
@@ -53,20 +70,31 @@ c-check: library
 streams: program
 	@python3 check/streams.py --seed 1 tools/x86-run $(PROGRAM)
 
-# The paper's records, made again from their text; the small program and the C example on them, and what each is to say.
+# The paper's records and the sample's, made again from their text; the small program and the C example on them, and what each is to say.
 example: library program
 	@mkdir -p target/c
 	@examples/make-records <examples/records.txt | cmp - examples/records
+	@examples/make-records <examples/sheet/updates.txt | cmp - examples/sheet/updates
 	@tools/x86-run $(PROGRAM) <examples/records | cmp - examples/collector.out
 	@tools/x86-cc $(CFLAGS) -static -o target/c/site examples/site.c $(LIBRARY)
 	@tools/x86-run target/c/site 10.16.0.1 10.16.3.200 192.0.2.1 <examples/records >target/c/site.out
 	@cmp target/c/site.out examples/site.out && echo 'example: as it is to be'
 
-install: library
-	@case $$(uname -m) in x86_64) ;; *) echo "make install: the library is x86-64 code: on this $$(uname -m) only a cross compiler can link it (CC=x86_64-linux-gnu-gcc)" >&2 ;; esac
-	install -d $(DESTDIR)$(PREFIX)/include $(DESTDIR)$(PREFIX)/lib/pkgconfig
+# The sheet of the sample files beside the stored ones; then good and wrong input, with all that the command is to say to it.
+command-check: command
+	@mkdir -p target/c
+	@tools/x86-run $(COMMAND) sheet $(SAMPLE) 2>target/c/sheet.err >target/c/sheet.txt
+	@cmp target/c/sheet.txt examples/sheet/sheet.txt
+	@tools/x86-run $(COMMAND) sheet $(SAMPLE) --csv 2>target/c/sheet.err >target/c/sheet.csv
+	@cmp target/c/sheet.csv examples/sheet/sheet.csv
+	@python3 programs/test-sheet tools/x86-run $(COMMAND)
+
+install: library command
+	@case $$(uname -m) in x86_64) ;; *) echo "make install: the library and the command are x86-64 code: on this $$(uname -m) only a cross compiler can link the one (CC=x86_64-linux-gnu-gcc) and an emulator run the other" >&2 ;; esac
+	install -d $(DESTDIR)$(PREFIX)/bin $(DESTDIR)$(PREFIX)/include $(DESTDIR)$(PREFIX)/lib/pkgconfig
 	install -m 644 include/rakmolthi.h $(DESTDIR)$(PREFIX)/include/
 	install -m 644 $(LIBRARY) $(DESTDIR)$(PREFIX)/lib/
+	install -m 755 $(COMMAND) $(DESTDIR)$(PREFIX)/bin/
 	sed 's|@PREFIX@|$(PREFIX)|' include/rakmolthi.pc.in >$(DESTDIR)$(PREFIX)/lib/pkgconfig/rakmolthi.pc
 
 soak: library
