@@ -28,16 +28,12 @@ sheet:
 	@$(MAKE) --no-print-directory command >target/sheet.log 2>&1 || { tail -20 target/sheet.log; exit 1; }
 	@tools/x86-run $(COMMAND) sheet $(SAMPLE)
 
-# The order matters: rt ci removes target/, and its own last line is to be the last one.
+# The quick checks first; then the proofs, and what links what they built. The last line is rt ci's own.
 test:
 	@rt fmt --check
 	@tools/settled
 	@python3 check/test_model.py
-	@$(MAKE) --no-print-directory c-check
-	@$(MAKE) --no-print-directory example
-	@$(MAKE) --no-print-directory command-check
-	@$(MAKE) --no-print-directory streams
-	@rt ci
+	@tools/prove-then c-check example command-check streams
 
 library: $(LIBRARY)
 
