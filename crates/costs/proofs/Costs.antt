@@ -34,7 +34,7 @@ module _ (o c : ℕ) where
   class-none z n = ap₂ (λ (s t : Bool). cond s (cond t 2 0) 1) (eq-eqb o 0 z) (eq-eqb c 0 n)
 
   -- in class 1 there are octets
-  traffic : classOf o c ≡ 1 → 0 < o
+  pub traffic : classOf o c ≡ 1 → 0 < o
   traffic e =
       by-eq o 0
       (λ z. by-eq c 0 (λ n. absurd (omega (arith, class-none z n))) (λ n. absurd (omega (arith, class-cents z n))))

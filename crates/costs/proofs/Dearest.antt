@@ -1,20 +1,20 @@
 -- What the sheet says in finance's words: of two lines the earlier one costs no less, in the rates as f64 and in true numbers; cents without
 -- traffic stand before all traffic, and lines with neither after it. And one outcome only meets the sheet's contract. Assumes nothing.
-use mathlib.Core.Path.{_≡_, refl, sym, ap, _∙_}
+use mathlib.Core.Path.{_≡_, refl, sym, ap, ap₂, _∙_}
 use mathlib.Core.Bool.{true, false, true≢false}
 use mathlib.Core.List.{List}
 use Prim.Native.Nat.{ℕ, _*_, _≤_, _<_}
 use native.Mathlib.Omega.{arith}
 use lib.ListN.{getD}
 use lib.Ieee.{Float, lt}
-use borrow.Author.Tests.{ltb-false}
+use borrow.Author.Tests.{le-ltb, ltb-false}
 use Rattle.costs.specs.Lines.{rateOf}
 use Rattle.costs.specs.Ranks.{Sound, classOf, ahead, before}
 use Rattle.costs.specs.Sheet.{Ranked, SheetIs}
 use Rattle.ground.proofs.Cases.{by-lt, by-eq, by-cmp}
 use Rattle.costs.proofs.Rates.{truly-above}
 use Rattle.costs.proofs.Counts.{hop-within}
-use Rattle.costs.proofs.Costs.{class-rate, class-cents, class-none, ahead-lower, by-rates, by-cents, word-is, in-order, before-order}
+use Rattle.costs.proofs.Costs.{class-rate, class-cents, class-none, traffic, ahead-lower, by-rates, by-cents, word-is, in-order, before-order}
 use Rattle.costs.proofs.Unique.{ascends, one-ranking}
 use Rattle.costs.proofs.Refusing.{sound}
 
@@ -23,7 +23,7 @@ abbrev pub rateAt : List ℕ → List ℕ → ℕ → Float
 rateAt octets cents h = rateOf (getD octets h 0) (getD cents h 0)
 
 -- what is known of a hop a that stands before a hop b
-pub record Dearer (octets cents : List ℕ) (a b : ℕ) : Type 0 where
+pub record StandsBefore (octets cents : List ℕ) (a b : ℕ) : Type 0 where
   -- with traffic on both, the rate of a is not below that of b
   pub rates : 0 < getD octets a 0 → 0 < getD octets b 0 → lt (rateAt octets cents a) (rateAt octets cents b) ≡ false
   -- where it is above, as f64, a costs more for an octet in true numbers: cents of b / octets of b < cents of a / octets of a
@@ -33,6 +33,8 @@ pub record Dearer (octets cents : List ℕ) (a b : ℕ) : Type 0 where
   pub ties : 0 < getD octets a 0 → 0 < getD octets b 0 → lt (rateAt octets cents b) (rateAt octets cents a) ≡ false → a < b
   -- with traffic on neither, a has no fewer cents
   pub no-traffic : getD octets a 0 ≡ 0 → getD octets b 0 ≡ 0 → getD cents b 0 ≤ getD cents a 0
+  -- and at as many cents a is the lower number
+  pub no-traffic-ties : getD octets a 0 ≡ 0 → getD octets b 0 ≡ 0 → getD cents a 0 ≡ getD cents b 0 → a < b
   -- first cents without traffic, then traffic, then neither
   pub classes : classOf (getD octets a 0) (getD cents a 0) ≤ classOf (getD octets b 0) (getD cents b 0)
 
@@ -51,11 +53,11 @@ module _ (os cs : List ℕ) (l : Sound os cs) (a b : ℕ) (p : 0 < a) (q : 0 < b
   abbrev cb : ℕ
   cb = getD cs b 0
 
-  by-words : (ahead ob cb oa ca ≡ false) × (ahead oa ca ob cb ≡ false → a < b)
-  by-words = rw (word-is os a p, word-is cs a p, word-is os b q, word-is cs b q) at (in-order os cs l a b h)
+  words-order : (ahead ob cb oa ca ≡ false) × (ahead oa ca ob cb ≡ false → a < b)
+  words-order = rw (word-is os a p, word-is cs a p, word-is os b q, word-is cs b q) at (in-order os cs l a b h)
 
   class-le : classOf oa ca ≤ classOf ob cb
-  class-le = by-lt (classOf ob cb) (classOf oa ca) (λ g. absurd (true≢false (sym (ahead-lower ob cb oa ca g) ∙ by-words .0))) (λ le. le)
+  class-le = by-lt (classOf ob cb) (classOf oa ca) (λ g. absurd (true≢false (sym (ahead-lower ob cb oa ca g) ∙ words-order .0))) (λ le. le)
 
   level : 0 < oa → 0 < ob → classOf ob cb ≡ classOf oa ca
   level x y = class-rate ob cb (λ z. omega arith) ∙ sym (class-rate oa ca (λ z. omega arith))
@@ -65,28 +67,33 @@ module _ (os cs : List ℕ) (l : Sound os cs) (a b : ℕ) (p : 0 < a) (q : 0 < b
       by-eq cb 0 (λ z. omega arith) (λ m.
       by-eq ca 0
       (λ z. absurd (omega (arith, class-le, class-cents ob cb y m, class-none oa ca x z)))
-      (λ n. ltb-false ca cb (sym (by-cents ob cb oa ca (class-cents ob cb y m ∙ sym (class-cents oa ca x n)) (λ e. omega (arith, class-cents ob cb y m))) ∙ by-words .0)))
+      (λ n. ltb-false ca cb (sym (by-cents ob cb oa ca (class-cents ob cb y m ∙ sym (class-cents oa ca x n)) (λ e. omega (arith, class-cents ob cb y m))) ∙ words-order .0)))
 
-  dearer : Dearer os cs a b
-  dearer = record {
-    rates = λ x y. sym (by-rates ob cb oa ca (level x y) (class-rate ob cb (λ z. omega arith))) ∙ by-words .0;
+  cents-tie : oa ≡ 0 → ob ≡ 0 → ca ≡ cb → a < b
+  cents-tie x y e =
+      words-order .1 (by-cents oa ca ob cb (ap₂ classOf (x ∙ sym y) e) (λ f. omega (arith, traffic oa ca f)) ∙ le-ltb cb ca (omega arith))
+
+  stands-before : StandsBefore os cs a b
+  stands-before = record {
+    rates = λ x y. sym (by-rates ob cb oa ca (level x y) (class-rate ob cb (λ z. omega arith))) ∙ words-order .0;
     truly = λ x y e. truly-above oa ca ob cb x (l .octets-small a p) (l .cents-small a p) y (l .octets-small b q) (l .cents-small b q) e;
-    ties = λ x y e. by-words .1 (by-rates oa ca ob cb (sym (level x y)) (class-rate oa ca (λ z. omega arith)) ∙ e);
+    ties = λ x y e. words-order .1 (by-rates oa ca ob cb (sym (level x y)) (class-rate oa ca (λ z. omega arith)) ∙ e);
     no-traffic = cents-fall;
+    no-traffic-ties = cents-tie;
     classes = class-le;
   }
 
 -- ---- two places of the sheet
 
--- A sheet that is not refused: each word is at most 2 ^ 53, and the hops are in order.
+-- A sheet that is not refused: no hop's word is above 2 ^ 53, and the hops are in order.
 pub answered : {os cs hops hops′ : List ℕ} → SheetIs os cs hops 0 hops′ → Sound os cs × Ranked os cs hops′
 answered {os} {cs} {hops} s = (sound os cs hops (sym (s .code-is)), s .filled refl)
 
 module _ {os cs hops : List ℕ} (l : Sound os cs) (r : Ranked os cs hops) where
   -- The dearest first: of two places of the sheet the earlier one holds the dearer hop.
-  pub dearest-first : (i j : ℕ) → i < j → j < 32767 → Dearer os cs (getD hops i 0) (getD hops j 0)
+  pub dearest-first : (i j : ℕ) → i < j → j < 32767 → StandsBefore os cs (getD hops i 0) (getD hops j 0)
   dearest-first i j m n =
-      dearer os cs l (getD hops i 0) (getD hops j 0) (hop-within (r .all) i (omega arith) .0) (hop-within (r .all) j n .0)
+      stands-before os cs l (getD hops i 0) (getD hops j 0) (hop-within (r .all) i (omega arith) .0) (hop-within (r .all) j n .0)
       (ascends (before-order os cs l) hops 32767 (r .all .long) (r .order) i j m (omega (arith, r .all .long)))
 
   abbrev classAt : ℕ → ℕ
