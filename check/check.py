@@ -1151,6 +1151,10 @@ def big_sizes(both, rng):
                        [rule_word(base, 24, 5), 0]))
         both.announce(base, base_length, base + 255, 32, 6)
         both.look_up(base, base_length, [base, base + 255])
+        both.lend_words(octets=[0] * 32768)
+        both.book(base, base_length, base + 255, MOST)
+        both.book_all(base, base_length, [base, base + 255, base - 1], [5, 1, 1], 3)
+        both.lend_words(octets=[])
         both.withdraw(base, base_length, base + 255, 32)
         both.clear(base, base_length)
 
