@@ -1739,7 +1739,7 @@ def sheets(both, rng, number):
     both.log.append("# " + family.__name__)
     if both.cost_sheet() != 0:
         raise Difference("the sheet was meant to be made")
-    # the lines say the same order: no rate is above the one before it
+    # the lines at both ends of it, and some others
     both.cost_lines(both.hops[:20] + both.hops[-20:] + [rng.randint(1, 32767) for _ in range(20)])
 
     # refusals: each size, words that passed 2^53 at both ends and elsewhere, and some of these together
@@ -1788,7 +1788,7 @@ KINDS = {
     "f": ("look up on bytes", bytes_tables, 3),
     "g": ("the paper's figures and T = 0", figures, 0),
     "h": ("bookings along histories", booking_histories, 2),
-    "i": ("bookings on any memory", any_bookings, 8),
+    "i": ("bookings on any memory", any_bookings, 6),
     "j": ("lines", lines, 2),
     "k": ("sheets", sheets, 2),
 }

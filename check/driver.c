@@ -122,13 +122,21 @@ static int guards_broken(const slice *s)
 
 static int changed(const slice *s) { return s->bytes != 0 && memcmp(s->copy, s->start, s->bytes) != 0; }
 
+/* The first element from byte i on that differs from before the call, or the end; what is the same is passed in large steps. */
+static size_t next_differing(const slice *s, size_t each, size_t i)
+{
+    while (i + each <= s->bytes && memcmp(s->copy + i, s->start + i, each) == 0) {
+        int large = i % 4096 == 0 && i + 4096 <= s->bytes && memcmp(s->copy + i, s->start + i, 4096) == 0;
+        i += large ? 4096 : each;
+    }
+    return i + each <= s->bytes ? i : s->bytes;
+}
+
 static uint32_t differing(const slice *s, size_t each)
 {
     uint32_t count = 0;
     size_t i;
-    if (!changed(s)) return 0;
-    for (i = 0; i + each <= s->bytes; i += each)
-        if (memcmp(s->copy + i, s->start + i, each) != 0) count++;
+    for (i = next_differing(s, each, 0); i < s->bytes; i = next_differing(s, each, i + each)) count++;
     return count;
 }
 
@@ -166,11 +174,12 @@ static uint32_t changed_but(int written) { return lent_changed() & ~(1u << writt
 static void give_octets(void)
 {
     const slice *s = &lent[OCTETS];
-    uint32_t count = differing(s, 8);
     size_t i;
-    give32(count);
-    for (i = 0; count && i < s->bytes; i += 8)
-        if (memcmp(s->copy + i, s->start + i, 8) != 0) { give32((uint32_t)(i / 8)); give(s->start + i, 8); }
+    give32(differing(s, 8));
+    for (i = next_differing(s, 8, 0); i < s->bytes; i = next_differing(s, 8, i + 8)) {
+        give32((uint32_t)(i / 8));
+        give(s->start + i, 8);
+    }
 }
 
 /* ------------------------------------------------------------------------------------------------- the calls */
