@@ -248,8 +248,9 @@ class Both:
         self.words_at_start = {name: list(getattr(self, name)) for name in MONEY if getattr(self, name)}
 
     def count(self, group, code, calls=1):
+        """With 0 calls it is one that was counted already, seen in another way."""
         self.compared += calls
-        self.codes[(group, code)] = self.codes.get((group, code), 0) + calls
+        self.codes[(group, code)] = self.codes.get((group, code), 0) + max(calls, 1)
 
     # -- updates and clear
 
@@ -427,6 +428,8 @@ class Both:
         wanted = model.book(self.lent.first, self.lent.long, self.octets, base, base_length, address, amount)
         self.compare_octets(before, guards, changed, code, wanted, changes)
         self.count("bookings", code)
+        if code not in (0, 30) and amount > MOST:        # so another refusal came before 30
+            self.count("not 30 but", code, 0)
         return code
 
     def book_all(self, base, base_length, addresses, amounts, room, shifts=(0, 0, 0)):
@@ -1549,7 +1552,7 @@ def any_bookings(both, rng, number):
         both.book(base, base_length, rng.choice(addresses), amount)
 
     # many at once
-    for how_many in (0, 1, rng.choice([2, 7, 30, 100])):
+    for how_many in (0, 1, rng.choice([2, 7, 30, 100, 100, 1025])):
         many = [rng.choice(addresses) for _ in range(how_many)]
         both.book_all(base, base_length, many, [amount_for(address) for address in many], how_many,
                       draw_record_shifts(rng))
@@ -1797,7 +1800,8 @@ ROUNDS = 20
 # The codes that a run of all rounds must have seen, by group: without them the cases are not what they are meant to be.
 TO_SEE = {
     "h": {"updates": (0,), "clears": (0,), "bookings": (0, 3, 30), "whole": (0,), "together": (0, 3, 30)},
-    "i": {"clears": (0, 1), "bookings": (0, 1, 3, 4, 30), "whole": (0, 1), "together": (0, 3, 4, 30)},
+    "i": {"clears": (0, 1), "bookings": (0, 1, 3, 4, 30), "not 30 but": (1, 3, 4), "whole": (0, 1),
+          "together": (0, 3, 4, 30)},
     "j": {"rates": (0,), "lines without": (0, 1, 2, 30, 31)},
     "k": {"sheets": (0, 1, 30, 31), "rates": (0,), "lines without": (0,)},
 }
