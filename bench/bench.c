@@ -1,5 +1,6 @@
 /* The bench: the library's calls beside plain C and DPDK's rte_lpm, as ratios of times taken in turn in one process. Words choose parts:
- * peer (the answers compared with DPDK's), look-up, tests, updates, hard; none means all of them. It prints Markdown tables. */
+ * peer (the answers compared with DPDK's), look-up, costs (bookings and the cost sheet), tests, updates, hard; none means all of them. It
+ * prints Markdown tables. */
 #define _GNU_SOURCE
 #include <stdio.h>
 #include <stdlib.h>
@@ -65,20 +66,20 @@ static const char *time_text(double ns) {
     return s;
 }
 
-static void heading(const char *title) {
-    printf("\n%s\n\n| call | rules | against | times | ratio | lowest..highest | bound | met |\n", title);
+static void heading(const char *title, const char *counted) {
+    printf("\n%s\n\n| call | %s | against | times | ratio | lowest..highest | bound | met |\n", title, counted);
     printf("|---|---|---|---|---|---|---|---|\n");
 }
 
 /* One row: the ratio of two series of times, round by round. A bound of 0 is none: the row is for information. */
-static void row(const char *call, int rules, const char *against, const double *ours, const double *theirs, double bound) {
+static void row(const char *call, int counted, const char *against, const double *ours, const double *theirs, double bound) {
     double q[ROUNDS], low = 1e99, high = 0;
     for (int r = 0; r < ROUNDS; r++) {
         q[r] = ours[r] / theirs[r];
         if (q[r] < low) low = q[r];
         if (q[r] > high) high = q[r];
     }
-    printf("| %s | %d | %s | %s, %s |", call, rules, against, time_text(median(ours)), time_text(median(theirs)));
+    printf("| %s | %d | %s | %s, %s |", call, counted, against, time_text(median(ours)), time_text(median(theirs)));
     printf(" %.2f | %.2f..%.2f |", median(q), low, high);
     if (bound) printf(" %.2f | %s |\n", bound, median(q) <= bound ? "yes" : "NO");
     else printf(" | |\n");
@@ -281,12 +282,115 @@ static void time_look_up(void) {
     for (int i = 0; i < ADDRESSES; i++) addresses[i] = rnd();
     struct memory m = lend(SEGMENTS);
     new_peer();
-    heading("Look up: random addresses, a time for each address; 1,024 addresses in each call of rk_look_up_all and rte_lpm_lookup_bulk.");
+    heading("Look up: random addresses, a time for each address; 1,024 addresses in each call of rk_look_up_all and rte_lpm_lookup_bulk.",
+            "rules");
     for (int k = 0; k < 3; k++) {
         grow(m, sizes[k], 1, 0);
         for (int huge = 0; huge < 2; huge++) time_ways(m, sizes[k], huge, addresses);
     }
     give_back(m), free(addresses);
+}
+
+/* ---- bookings and the cost sheet ---- */
+
+/* Each way of booking CALL flows into the same words. */
+enum { FLOWS = 1 << 20 };
+static uint64_t *words;
+typedef void booking(const uint32_t *, const uint64_t *);
+static void rk_booked(const uint32_t *a, const uint64_t *amounts) {
+    uint32_t codes[CALL];
+    if (rk_book_all(first, BLOCKS, lng, 256 * SEGMENTS, words, RK_WORDS, 0, 0, a, CALL, amounts, CALL, codes, CALL)) fail("book");
+}
+static void looked_up_and_added(const uint32_t *a, const uint64_t *amounts) {
+    uint32_t answers[CALL];
+    rk_all(a, answers);
+    plain_add(answers, amounts, words, CALL);
+}
+
+static void time_bookings(struct memory m, int rules, int huge, const uint32_t *addresses, const uint64_t *amounts) {
+    static booking *const ways[2] = {rk_booked, looked_up_and_added};
+    static double t[2][ROUNDS];
+    static uint64_t wanted[RK_WORDS];
+    first = room(4ul * BLOCKS, huge), lng = room(1024ul * SEGMENTS, huge), words = room(8ul * RK_WORDS, huge);
+    load(m.first, m.lng);
+    for (int r = 0; r < ROUNDS; r++)
+        for (int k = 0; k < 2; k++) {
+            if (rk_clear_octets(words, RK_WORDS)) fail("clear the octets");
+            for (int i = 0; i < FLOWS; i += CALL) ways[k](addresses + i, amounts + i);
+            double start = now();
+            for (int i = 0; i < FLOWS; i += CALL) ways[k](addresses + i, amounts + i);
+            t[k][r] = (now() - start) / FLOWS;
+            /* No record is refused, so the words are the same for all. */
+            if (r == 0 && k == 0) memcpy(wanted, words, sizeof wanted);
+            if (memcmp(wanted, words, sizeof wanted)) fail("rk_book_all differs from look up and plain additions");
+        }
+    uint64_t sum = 0, all = 0;
+    for (int h = 0; h < RK_WORDS; h++) sum += words[h];
+    for (int i = 0; i < FLOWS; i++) all += 2 * amounts[i];
+    if (sum != all) fail("the words do not sum to the octets of the records");
+    row(huge ? "rk_book_all, 2 MB pages" : "rk_book_all, 4 KB pages", rules, "rk_look_up_all, then plain C additions", t[0], t[1], 1.5);
+    free(first), free(lng), free(words);
+}
+
+static uint64_t below(uint64_t end) { return ((uint64_t)rnd() << 32 | rnd()) % end; }
+
+static void draw_lines(int kind, uint64_t *octets, uint64_t *cents) {
+    for (int h = 0; h < RK_WORDS; h++) {
+        octets[h] = 1 + below(1000000000000), cents[h] = below(100000000);
+        if (kind == 1) octets[h] *= rnd() % 3 != 0, cents[h] *= rnd() % 3 != 0;
+        if (kind == 2) octets[h] = 1 + rnd() % 8, cents[h] = rnd() % 8;
+        if (kind == 3) octets[h] = 1000, cents[h] = RK_WORDS - h;
+        if (kind == 4) octets[h] = 1000, cents[h] = h;
+    }
+    cents[0] = UINT64_MAX; /* not read */
+}
+
+static void time_sheets(void) {
+    static const char *const kinds[] = {"rk_cost_sheet, random lines", "rk_cost_sheet, a third without octets, a third without cents",
+                                        "rk_cost_sheet, many equal rates", "rk_cost_sheet, in order", "rk_cost_sheet, in opposite order"};
+    enum { TURNS = 4 };
+    static uint64_t octets[RK_WORDS], cents[RK_WORDS];
+    static uint32_t ours[RK_HOPS], theirs[RK_HOPS];
+    static double t[3][ROUNDS];
+    for (int kind = 0; kind < 5; kind++) {
+        for (int r = -1; r < ROUNDS; r++) {
+            double sum[3] = {0};
+            for (int i = 0; i < TURNS; i++) {
+                draw_lines(kind, octets, cents);
+                double a = now();
+                if (rk_cost_sheet(octets, RK_WORDS, cents, RK_WORDS, ours, RK_HOPS)) fail("cost sheet");
+                double b = now();
+                plain_sheet(octets, cents, theirs);
+                double c = now();
+                if (memcmp(ours, theirs, sizeof ours)) fail("rk_cost_sheet differs from qsort");
+                double d = now();
+                plain_sheet_of_lines(octets, cents, theirs);
+                double e = now();
+                if (memcmp(ours, theirs, sizeof ours)) fail("rk_cost_sheet differs from qsort of lines");
+                sum[0] += b - a, sum[1] += c - b, sum[2] += e - d;
+            }
+            if (r >= 0)
+                for (int k = 0; k < 3; k++) t[k][r] = sum[k] / TURNS;
+        }
+        row(kinds[kind], RK_HOPS, "qsort, same comparison", t[0], t[1], kind == 0 ? 3 : 0);
+        if (kind == 0) row(kinds[kind], RK_HOPS, "qsort of lines divided before", t[0], t[2], 0);
+    }
+}
+
+static void time_costs(void) {
+    heading("The cost sheet: a time for each sheet.", "lines");
+    time_sheets();
+    uint32_t *addresses = malloc(4ul * FLOWS);
+    uint64_t *amounts = malloc(8ul * FLOWS);
+    for (int i = 0; i < FLOWS; i++) addresses[i] = rnd(), amounts[i] = rnd() % 1000000;
+    struct memory m = lend(SEGMENTS);
+    new_peer();
+    heading("Bookings: flows of random addresses, 1,024 in each call, a time for each flow.", "rules");
+    for (int k = 0; k < 3; k++) {
+        grow(m, sizes[k], 1, 0);
+        for (int huge = 0; huge < 2; huge++) time_bookings(m, sizes[k], huge, addresses, amounts);
+    }
+    give_back(m), free(addresses), free(amounts);
 }
 
 /* ---- the tests of an update ---- */
@@ -312,7 +416,7 @@ static void time_tests(void) {
     static double ours[ROUNDS], plain[ROUNDS];
     struct memory m = lend(1024);
     new_peer();
-    heading("The tests of an update, 65,536 rule words, 2^24 closed blocks.");
+    heading("The tests of an update, 65,536 rule words, 2^24 closed blocks.", "rules");
     for (int k = 0; k < 4; k++) {
         grow(m, counts[k], 0, 0);
         for (int r = -1; r < ROUNDS; r++) {
@@ -421,7 +525,7 @@ static void time_updates(void) {
     static const int counts[] = {1000, 10000, 60000, RULES - 1};
     struct memory m = lend(1024);
     new_peer();
-    heading("Updates, 1,024 segments, 65,536 rule words; the rules beside the prefix are counted.");
+    heading("Updates, 1,024 segments, 65,536 rule words; the rules beside the prefix are counted.", "rules");
     int open[4] = {0};
     for (int k = 0; k < 4; k++) {
         grow(m, counts[k], 1, 1000);
@@ -476,7 +580,7 @@ static void time_hard_lists(void) {
         {", /24s of many ones", many_ones, 1024},
         {", /32s of many ones", many_ones_long, 1024},
         {", /32s of more ones, 32,768 segments", more_ones, 32768}};
-    heading("The default route over lists made to be hard for withdraw.");
+    heading("The default route over lists made to be hard for withdraw.", "rules");
     for (size_t k = 0; k < sizeof lists / sizeof *lists; k++) {
         struct memory m = lend(lists[k].segments);
         new_peer();
@@ -497,7 +601,7 @@ int main(int argc, char **argv) {
 #ifdef DPDK
         {"peer", compare_with_peer},
 #endif
-        {"look-up", time_look_up}, {"tests", time_tests}, {"updates", time_updates}, {"hard", time_hard_lists}};
+        {"look-up", time_look_up}, {"costs", time_costs}, {"tests", time_tests}, {"updates", time_updates}, {"hard", time_hard_lists}};
     for (size_t k = 0; k < sizeof parts / sizeof *parts; k++) {
         int wanted = argc == 1;
         for (int i = 1; i < argc; i++) wanted |= !strcmp(argv[i], parts[k].name);

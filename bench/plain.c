@@ -1,5 +1,8 @@
 /* The yardsticks of plain.h, in an object file of their own so that no compiler folds them into the loops that time them. */
+#include <stdlib.h>
 #include "plain.h"
+
+enum { HOPS = 32767 };
 
 static const uint32_t masks[33] = {
     0x00000000, 0x80000000, 0xc0000000, 0xe0000000, 0xf0000000, 0xf8000000, 0xfc000000, 0xfe000000, 0xff000000, 0xff800000, 0xffc00000,
@@ -39,6 +42,61 @@ void plain_look_up_all(const uint32_t *first, const uint32_t *long_table, const 
         if (cell >= POINTER) cell = long_table[(size_t)(cell - POINTER) * 256 + (addresses[i] & 255)];
         answers[i] = cell / 64;
     }
+}
+
+void plain_add(const uint32_t *answers, const uint64_t *amounts, uint64_t *octets, size_t count) {
+    for (size_t i = 0; i < count; i++) {
+        uint32_t code = answers[i] >> 16;
+        if (code == 0 || code == 8) octets[answers[i] & 0xffff] += amounts[i];
+    }
+}
+
+/* qsort hands its comparison nothing but two elements. */
+static const uint64_t *all_octets, *all_cents;
+
+static int kind_of(uint32_t hop) { return all_octets[hop] ? 1 : all_cents[hop] ? 0 : 2; }
+
+static int dearer(const void *p, const void *q) {
+    uint32_t a = *(const uint32_t *)p, b = *(const uint32_t *)q;
+    int k = kind_of(a), l = kind_of(b);
+    if (k != l) return k < l ? -1 : 1;
+    if (k == 1) {
+        double x = (double)all_cents[a] / (double)all_octets[a], y = (double)all_cents[b] / (double)all_octets[b];
+        if (x != y) return x > y ? -1 : 1;
+    } else if (all_cents[a] != all_cents[b]) {
+        return all_cents[a] > all_cents[b] ? -1 : 1;
+    }
+    return a < b ? -1 : a > b;
+}
+
+void plain_sheet(const uint64_t *octets, const uint64_t *cents, uint32_t *hops) {
+    all_octets = octets, all_cents = cents;
+    for (uint32_t hop = 1; hop <= HOPS; hop++) hops[hop - 1] = hop;
+    qsort(hops, HOPS, sizeof *hops, dearer);
+}
+
+/* Cents are at most 2^53, so a double holds them as well as a rate. */
+struct line {
+    double by;
+    uint32_t kind, hop;
+};
+
+static int dearer_line(const void *p, const void *q) {
+    const struct line *a = p, *b = q;
+    if (a->kind != b->kind) return a->kind < b->kind ? -1 : 1;
+    if (a->by != b->by) return a->by > b->by ? -1 : 1;
+    return a->hop < b->hop ? -1 : a->hop > b->hop;
+}
+
+void plain_sheet_of_lines(const uint64_t *octets, const uint64_t *cents, uint32_t *hops) {
+    static struct line lines[HOPS];
+    for (uint32_t hop = 1; hop <= HOPS; hop++) {
+        struct line line = {octets[hop] ? (double)cents[hop] / (double)octets[hop] : (double)cents[hop], 0, hop};
+        line.kind = octets[hop] ? 1 : cents[hop] ? 0 : 2;
+        lines[hop - 1] = line;
+    }
+    qsort(lines, HOPS, sizeof *lines, dearer_line);
+    for (uint32_t i = 0; i < HOPS; i++) hops[i] = lines[i].hop;
 }
 
 size_t plain_form(const uint64_t *rules, size_t count, uint32_t base, uint32_t base_length) {

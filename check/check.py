@@ -21,6 +21,8 @@ from model import Lent, rule_word
 
 TOP = 2 ** 32
 POINTER = 2 ** 31
+MOST = 2 ** 53
+WORD_TOP = 2 ** 64
 
 
 class Difference(Exception):
@@ -63,7 +65,7 @@ class Driver:
     def update(self, letter, numbers, sizes, dump):
         """(code, cells, guards, differing elements of each slice, contents of each slice or None)"""
         self.send(letter, struct.pack("<%dIB" % len(numbers), *numbers, dump))
-        answer = struct.unpack("<IIB4I", self.receive(25))
+        answer = struct.unpack("<IIH7I", self.receive(38))
         contents = [self.receive(size) for size in sizes] if dump else None
         return answer[0], answer[1], answer[2], answer[3:], contents
 
@@ -71,27 +73,62 @@ class Driver:
         """(guards, changed, answers)"""
         count = len(addresses)
         self.send(struct.pack("<c3I%dI" % count, b"L", base, base_length, count, *addresses))
-        answer = struct.unpack("<BB%dI" % count, self.receive(2 + 4 * count))
+        answer = struct.unpack("<HH%dI" % count, self.receive(4 + 4 * count))
         return answer[0], answer[1], list(answer[2:])
 
     def look_up_all(self, base, base_length, addresses, room):
         """(guards, changed, what was returned, answers)"""
         count = len(addresses)
         self.send(struct.pack("<c4I%dI" % count, b"V", base, base_length, count, room, *addresses))
-        answer = struct.unpack("<BBI%dI" % room, self.receive(6 + 4 * room))
+        answer = struct.unpack("<HHI%dI" % room, self.receive(8 + 4 * room))
         return answer[0], answer[1], answer[2], list(answer[3:])
 
     def read_record(self, record, expected):
         """(guards, changed, code, update)"""
         self.send(struct.pack("<cII", b"R", expected, len(record)), record)
-        answer = struct.unpack("<BBIBIIBH", self.receive(18))
+        answer = struct.unpack("<HHIBIIBH", self.receive(20))
         return answer[0], answer[1], answer[2], answer[3:]
 
     def write_record(self, room, update):
-        """(guards, code, the room afterwards)"""
+        """(guards, changed, code, the room afterwards)"""
         self.send(struct.pack("<cBIIBHI", b"P", *update, len(room)), room)
-        guards, code = struct.unpack("<BI", self.receive(5))
-        return guards, code, self.receive(len(room))
+        guards, changed, code = struct.unpack("<HHI", self.receive(8))
+        return guards, changed, code, self.receive(len(room))
+
+    def contents(self, which, size):
+        self.send(struct.pack("<cB", b"D", which))
+        return self.receive(size)
+
+    def octets_answer(self):
+        """(guards, changed, code, the words of octets that changed as (place, word))"""
+        guards, changed, code, count = struct.unpack("<HHII", self.receive(12))
+        return guards, changed, code, list(struct.iter_unpack("<IQ", self.receive(12 * count)))
+
+    def clear_octets(self):
+        self.send(b"Z")
+        return self.octets_answer()
+
+    def book(self, base, base_length, address, amount):
+        self.send(struct.pack("<c3IQ", b"B", base, base_length, address, amount))
+        return self.octets_answer()
+
+    def book_all(self, base, base_length, addresses, amounts, room, shifts):
+        """The same of the whole call, and the codes of the records"""
+        self.send(struct.pack("<cII3B3I", b"K", base, base_length, *shifts, len(addresses), len(amounts), room),
+                  little_endian("I", addresses), little_endian("Q", amounts))
+        return self.octets_answer() + (numbers_of("I", self.receive(4 * room)),)
+
+    def cost_lines(self, hops):
+        """(guards, changed, for each hop (code, traffic, the bytes of the rate))"""
+        self.send(struct.pack("<cI", b"I", len(hops)), little_endian("I", hops))
+        guards, changed = struct.unpack("<HH", self.receive(4))
+        return guards, changed, list(struct.iter_unpack("<II8s", self.receive(16 * len(hops))))
+
+    def cost_sheet(self, room):
+        """(guards, changed, code, the room afterwards)"""
+        self.send(b"S")
+        guards, changed, code = struct.unpack("<HHI", self.receive(8))
+        return guards, changed, code, numbers_of("I", self.receive(4 * room))
 
     def end(self):
         self.send(b"Q")
@@ -125,6 +162,16 @@ def lent_text(lent):
                len(lent.owners), runs(lent.owners), len(lent.rules), runs(lent.rules)))
 
 
+def some_runs(words):
+    """The same of many words, cut short: the command that runs the case again has them all."""
+    text = runs(words)
+    return text if len(text) < 4000 else text[:4000].rsplit(" ", 1)[0] + " ..."
+
+
+def slices_text(mask):
+    return ", ".join(name for k, name in enumerate(NAMES) if mask >> k & 1)
+
+
 def little_endian(kind, numbers):
     words = array.array(kind, numbers)
     if sys.byteorder == "big":
@@ -142,8 +189,10 @@ def numbers_of(kind, contents):
 
 assert array.array("I").itemsize == 4 and array.array("Q").itemsize == 8
 
-NAMES = ("first", "long", "owners", "rules")
-FORMS = ("I", "I", "I", "Q")
+NAMES = ("first", "long", "owners", "rules", "octets", "cents", "hops", "what came first", "second", "third")
+FORMS = ("I", "I", "I", "Q", "Q", "Q", "I")
+TABLES = NAMES[:4]
+MONEY = NAMES[4:7]
 
 
 # ---------------------------------------------------------------------------------------------------------------------
@@ -156,16 +205,21 @@ class Both:
     def __init__(self, driver):
         self.driver = driver
         self.lent = Lent([], [], [], [])
+        self.octets, self.cents, self.hops = [], [], []
         self.lent_at_start = None        # what was lent last, and the calls since then, for the print of a difference
         self.lent_as_bytes = None
+        self.words_at_start = {}
         self.log = []
         self.call = ""                   # the call that is being made
         self.compared = 0
         self.codes = {}
 
     def start_case(self):
+        if self.octets or self.cents or self.hops:
+            self.lend_words([], [], [])
         self.lent_at_start = None
         self.lent_as_bytes = None
+        self.words_at_start = {}
         self.log = []
         self.call = ""
 
@@ -177,10 +231,26 @@ class Both:
         self.log = []
         for which, words in enumerate((lent.first, lent.long, lent.owners, lent.rules)):
             self.driver.lend(which, little_endian(FORMS[which], words), shifts[which])
+        self.words_from_here()
+
+    def lend_words(self, octets=None, cents=None, hops=None, shifts=(0, 0, 0)):
+        """Both get these words; those that are not named stay as they are, and so do the tables."""
+        for which, words in enumerate((octets, cents, hops)):
+            if words is not None:
+                setattr(self, MONEY[which], list(words))
+                self.driver.lend(4 + which, little_endian(FORMS[4 + which], words), shifts[which])
+        if self.lent_at_start is not None:
+            self.lent_at_start = self.lent.copy()
+        self.words_from_here()
+        self.log = []
+
+    def words_from_here(self):
+        self.words_at_start = {name: list(getattr(self, name)) for name in MONEY if getattr(self, name)}
 
     def count(self, group, code, calls=1):
+        """With 0 calls it is one that was counted already, seen in another way."""
         self.compared += calls
-        self.codes[(group, code)] = self.codes.get((group, code), 0) + calls
+        self.codes[(group, code)] = self.codes.get((group, code), 0) + max(calls, 1)
 
     # -- updates and clear
 
@@ -198,8 +268,9 @@ class Both:
         if cells != wanted_cells:
             wrong.append("cells: library %d, model %d" % (cells, wanted_cells))
         if guards != 0:
-            wrong.append("bytes outside the lent slices were written: %s"
-                         % ", ".join(NAMES[k] for k in range(4) if guards >> k & 1))
+            wrong.append("bytes outside the lent slices were written: %s" % slices_text(guards))
+        if any(differing[4:]):
+            wrong.append("words of the cost sheet were written: %r" % (differing[4:],))
         for which, words in enumerate((self.lent.first, self.lent.long, self.lent.owners, self.lent.rules)):
             if contents[which] != little_endian(FORMS[which], words):
                 got = numbers_of(FORMS[which], contents[which])
@@ -301,13 +372,133 @@ class Both:
 
     def write_record(self, room, update):
         self.call = "write_record(%d bytes: %s, %r)" % (len(room), room.hex(" "), update)
-        guards, code, after = self.driver.write_record(room, update)
+        guards, changed, code, after = self.driver.write_record(room, update)
         wanted_code, wanted_after = model.write_record(room, update)
-        if guards or code != wanted_code or after != wanted_after:
-            raise Difference("library code %d, room %s\n  model   code %d, room %s\n  bytes written outside: %#x"
-                             % (code, after.hex(" "), wanted_code, wanted_after.hex(" "), guards))
+        if guards or changed or code != wanted_code or after != wanted_after:
+            raise Difference("library code %d, room %s\n  model   code %d, room %s\n"
+                             "  bytes written outside: guards %#x, lent memory %#x"
+                             % (code, after.hex(" "), wanted_code, wanted_after.hex(" "), guards, changed))
         self.count("records", code)
         return code, after
+
+    # -- the cost sheet
+
+    def written(self, guards, changed):
+        """What a call wrote that it may not write, as lines for a difference."""
+        return (["bytes outside were written: before or after %s" % slices_text(guards)] if guards else []) + (
+            ["what is only read was written: %s" % slices_text(changed)] if changed else [])
+
+    def compare_octets(self, before, guards, changed, code, wanted_code, changes, more=()):
+        """Code and words of a call on the octets: `before` are the words that both had, `changes` what the library wrote;
+        the model has written in self.octets."""
+        wrong = self.written(guards, changed) + list(more)
+        if code != wanted_code:
+            wrong.append("code: library %d, model %d" % (code, wanted_code))
+        got = list(before)
+        for place, word in changes:
+            got[place] = word
+        if got != self.octets:
+            places = [place for place in range(len(got)) if got[place] != self.octets[place]]
+            wrong.append("octets: %d words differ" % len(places))
+            for place in places[:40]:
+                wrong.append("    octets[%d]: before %d, library %d, model %d"
+                             % (place, before[place], got[place], self.octets[place]))
+        if wrong:
+            raise Difference("\n  ".join(wrong))
+        self.log.append("%s -> code %d" % (self.call, code))
+
+    def compare_all_octets(self):
+        """Every word, as it stands in the library's memory."""
+        self.call = "the words of octets"
+        if self.driver.contents(4, 8 * len(self.octets)) != little_endian("Q", self.octets):
+            raise Difference("they differ from the model's")
+
+    def clear_octets(self):
+        self.call = "clear_octets(%d words)" % len(self.octets)
+        before = list(self.octets)
+        guards, changed, code, changes = self.driver.clear_octets()
+        self.compare_octets(before, guards, changed, code, model.clear_octets(self.octets), changes)
+        self.count("clears", code)
+        return code
+
+    def book(self, base, base_length, address, amount):
+        self.call = "book(%s/%d, %s, %d)" % (ip(base), base_length, ip(address), amount)
+        before = list(self.octets)
+        guards, changed, code, changes = self.driver.book(base, base_length, address, amount)
+        wanted = model.book(self.lent.first, self.lent.long, self.octets, base, base_length, address, amount)
+        self.compare_octets(before, guards, changed, code, wanted, changes)
+        self.count("bookings", code)
+        if code not in (0, 30) and amount > MOST:        # so another refusal came before 30
+            self.count("not 30 but", code, 0)
+        return code
+
+    def book_all(self, base, base_length, addresses, amounts, room, shifts=(0, 0, 0)):
+        """(the number of the whole, the room for codes afterwards)"""
+        self.call = "book_all(%s/%d, %d: %s; %d: %s; room for %d)" % (
+            ip(base), base_length, len(addresses), " ".join(ip(address) for address in addresses),
+            len(amounts), " ".join("%d" % amount for amount in amounts), room)
+        before = list(self.octets)
+        guards, changed, code, changes, codes = self.driver.book_all(base, base_length, addresses, amounts, room,
+                                                                     shifts)
+        wanted_codes = [UNTOUCHED] * room
+        wanted = model.book_all(self.lent.first, self.lent.long, self.octets, base, base_length, addresses, amounts,
+                                wanted_codes)
+        self.compare_octets(before, guards, changed, code, wanted, changes,
+                            ["record %d: library %d, model %d" % (i, codes[i], wanted_codes[i])
+                             for i in range(room) if codes[i] != wanted_codes[i]][:40])
+        self.count("whole", code)
+        if code == 0:
+            for one in codes:
+                self.count("together", one)
+        return code, codes
+
+    def cost_lines(self, hops):
+        """The line of each of these hops."""
+        guards, changed, lines = self.driver.cost_lines(hops)
+        for hop, (code, traffic, rate) in zip(hops, lines):
+            self.call = "cost_line(%d)" % hop
+            wanted_code, wanted = model.cost_line(self.octets, self.cents, hop)
+            has_rate = wanted_code == 0 and wanted != model.NO_TRAFFIC
+            wanted_bytes = struct.pack("<d", wanted if has_rate else 0.0)
+            if (code, traffic, rate) != (wanted_code, 1 if has_rate else 0, wanted_bytes):
+                raise Difference("library code %d, traffic %d, rate %r (%s)\n  model   code %d, traffic %d, rate %r (%s)%s"
+                                 % (code, traffic, *struct.unpack("<d", rate), rate[::-1].hex(), wanted_code,
+                                    1 if has_rate else 0, *struct.unpack("<d", wanted_bytes), wanted_bytes[::-1].hex(),
+                                    self.two_words(hop)))
+            if has_rate:
+                self.count("rates", 0)
+            else:
+                self.count("lines without", code)
+        wrong = self.written(guards, changed)
+        if wrong:
+            raise Difference("\n  ".join(wrong))
+
+    def two_words(self, hop):
+        if hop < len(self.octets) and hop < len(self.cents):
+            return "\n  the words of the hop: %d octets, %d cents" % (self.octets[hop], self.cents[hop])
+        return ""
+
+    def cost_sheet(self):
+        self.call = "cost_sheet(%d octets, %d cents, %d hops)" % (len(self.octets), len(self.cents), len(self.hops))
+        guards, changed, code, sheet = self.driver.cost_sheet(len(self.hops))
+        wanted = model.cost_sheet(self.octets, self.cents, self.hops)
+        wrong = self.written(guards, changed)
+        if code != wanted:
+            wrong.append("code: library %d, model %d" % (code, wanted))
+        if sheet != self.hops:
+            places = [place for place in range(len(sheet)) if sheet[place] != self.hops[place]]
+            wrong.append("%d places differ" % len(places))
+            for place in places[:10]:
+                wrong.append("    place %d: library hop %d, model hop %d" % (place, sheet[place], self.hops[place]))
+                for hop in (sheet[place], self.hops[place]):
+                    if 1 <= hop < min(len(self.octets), len(self.cents)):
+                        wrong.append("        hop %d: %d octets, %d cents, ranked by %r" % (
+                            hop, self.octets[hop], self.cents[hop], model.rank(self.octets, self.cents, hop)))
+        if wrong:
+            raise Difference("\n  ".join(wrong))
+        self.log.append("%s -> code %d" % (self.call, code))
+        self.count("sheets", code)
+        return code
 
 
 # What the driver puts into the room for answers before the call.
@@ -807,6 +998,15 @@ TABLE_DAMAGE = (first_cell_hop_0, first_cell_length, first_cell_above, pointer_n
                 owner_wrong, segment_cell, pointer_and_nothing_long, something_long_and_no_pointer)
 
 
+def spoil(rng, case, lent, chosen):
+    for kind in chosen:
+        if kind in RULE_DAMAGE:
+            live = len([word for word in lent.rules if word])
+            kind(rng, case, lent.rules, live)
+        else:
+            kind(rng, case, lent)
+
+
 def damage_memory(both, rng, number):
     case = Strange(rng, blocks_damaged=0, full=rng.random() < 0.9)
     lent = case.lent.copy()
@@ -814,12 +1014,7 @@ def damage_memory(both, rng, number):
     chosen = [kinds[number % len(kinds)]]
     for _ in range(rng.choice([0, 0, 0, 0, 1, 2])):
         chosen.append(rng.choice(kinds))
-    for kind in chosen:
-        if kind in RULE_DAMAGE:
-            live = len([word for word in lent.rules if word])
-            kind(rng, case, lent.rules, live)
-        else:
-            kind(rng, case, lent)
+    spoil(rng, case, lent, chosen)
     both.lend(lent, draw_shifts(rng))
     both.log.append("# damage: " + ", ".join(kind.__name__ for kind in chosen))
     both.look_up(case.base, case.base_length, case.prefixes.addresses(case.address, case.length, 12))
@@ -864,7 +1059,7 @@ def sizes_and_numbers(both, rng, number):
     address, length, hop = rng.choice(model.live_list(right.rules))
 
     # each size off, the others right
-    for name in NAMES:
+    for name in TABLES:
         words = getattr(right, name)
         n = len(words)
         for size in sorted({0, 1, 255, 256, n - 256, n - 1, n, n + 1, n + 255, n + 256, n // 2, 2 * n}):
@@ -959,6 +1154,10 @@ def big_sizes(both, rng):
                        [rule_word(base, 24, 5), 0]))
         both.announce(base, base_length, base + 255, 32, 6)
         both.look_up(base, base_length, [base, base + 255])
+        both.lend_words(octets=[0] * 32768)
+        both.book(base, base_length, base + 255, MOST)
+        both.book_all(base, base_length, [base, base + 255, base - 1], [5, 1, 1], 3)
+        both.lend_words(octets=[])
         both.withdraw(base, base_length, base + 255, 32)
         both.clear(base, base_length)
 
@@ -1196,6 +1395,383 @@ def figures(both, rng, number):
 
 
 # ---------------------------------------------------------------------------------------------------------------------
+# (h) Bookings along histories of updates
+# ---------------------------------------------------------------------------------------------------------------------
+
+EDGES = (0, 1, 2, MOST - 2, MOST - 1, MOST, MOST + 1, MOST + 2, WORD_TOP - MOST, WORD_TOP - 1, TOP, POINTER)
+
+
+def over_and_over(rng, words, count):
+    """So many of these words, in no order for 997 of them and then again: quicker than to draw each."""
+    return (rng.choices(words, k=997) * (count // 997 + 1))[:count]
+
+
+def draw_word_shifts(rng):
+    return rng.choice([0, 8]), rng.choice([0, 8]), rng.choice([0, 4, 8, 12])
+
+
+def draw_record_shifts(rng):
+    return rng.choice([0, 4, 8, 12]), rng.choice([0, 8]), rng.choice([0, 4, 8, 12])
+
+
+def draw_amount(rng, word):
+    """Octets for this word: those that bring it to 2^53 and just above, those that wrap, and others."""
+    rest = max(MOST - word, 0)
+    return rng.choice([0, 1, rest, rest + 1, max(rest - 1, 0), rest // 2, MOST, MOST + 1, MOST - 1, WORD_TOP - 1,
+                       min(WORD_TOP - word, WORD_TOP - 1), min(WORD_TOP - word + 1, WORD_TOP - 1), WORD_TOP - MOST,
+                       rng.randrange(1500), rng.randrange(10 ** 12), rng.randrange(MOST), rng.randrange(WORD_TOP)])
+
+
+def booking_histories(both, rng, number):
+    base_length = (24, 23, 20, 24, 22, 16)[number % 6]
+    base = draw_base(rng, base_length)
+    segments = rng.choice([0, 1, 2, 4])
+    room = rng.choice([3, 8, 20])
+    prefixes = Prefixes(rng, base, base_length)
+    both.lend(Lent([rng.randrange(TOP) for _ in range(2 ** (24 - base_length))], [9] * (256 * segments), [9] * segments,
+                   [9] * room), draw_shifts(rng))
+    both.lend_words(octets=over_and_over(rng, EDGES, 32768), shifts=draw_word_shifts(rng))
+    if both.clear(base, base_length) != 0 or both.clear_octets() != 0:
+        raise Difference("clear was refused")
+    live = {}                # (address, length): hop, from the accepted updates alone
+    carried = {}             # hop: octets of the accepted records, by the longest match of the live list at that time
+
+    def amount_for(address):
+        if rng.random() < 0.7:
+            return rng.choice([rng.randrange(1500), rng.randrange(10 ** 12)])
+        return draw_amount(rng, carried.get(hop_of(address), 0))
+
+    def hop_of(address):
+        found = model.longest_match([(a, l, hop) for (a, l), hop in live.items()], address)
+        return 0 if found is None else found[2]
+
+    def account(address, amount, code):
+        """What this record must answer, from the live list and the accepted records alone; its octets are carried."""
+        hop = hop_of(address)
+        if not model.in_prefix(address, base, base_length):
+            right = 3
+        elif carried.get(hop, 0) + amount > MOST:
+            right = 30
+        else:
+            right = 0
+            carried[hop] = carried.get(hop, 0) + amount
+        if code != right:
+            raise Difference("the record (%s, %d) is answered with %d; by the longest match of the live list and the "
+                             "records accepted before it is %d" % (ip(address), amount, code, right))
+
+    def compare_with_records():
+        for hop, octets in carried.items():
+            if both.octets[hop] != octets:
+                raise Difference("word %d is %d, the accepted records of this hop have %d octets"
+                                 % (hop, both.octets[hop], octets))
+        if sum(both.octets) != sum(carried.values()):
+            raise Difference("the words sum to %d, the accepted records have %d octets"
+                             % (sum(both.octets), sum(carried.values())))
+
+    def records(address, length, how_many):
+        """Addresses at the edges of the last update and elsewhere; or one of them many times."""
+        some = prefixes.addresses(address, length, 8)
+        some = [rng.choice(some) for _ in range(how_many)]
+        return some if rng.random() < 0.7 else [rng.choice(some or [base])] * how_many
+
+    for _ in range(rng.randint(10, 30)):
+        name = rng.choice(["announce", "announce", "announce", "withdraw", "re_home"])
+        address, length = prefixes.right()
+        if name != "announce" and live:
+            address, length = rng.choice(list(live))
+        hop = draw_hop(rng)
+        code, cells = both.any_update(name, base, base_length, address, length, hop)
+        if code == 0 and name == "withdraw":
+            del live[(address, length)]
+        elif code == 0:
+            live[(address, length)] = hop
+        for one in records(address, length, rng.randint(1, 5)):
+            amount = amount_for(one)
+            account(one, amount, both.book(base, base_length, one, amount))
+        if rng.random() < 0.5:
+            many = records(address, length, rng.choice([0, 1, 5, 16, 40]))
+            amounts = [amount_for(one) for one in many]
+            if many and rng.random() < 0.3:
+                amounts = [max(MOST - carried.get(hop_of(many[0]), 0), 0) // 3] * len(many)    # 30 starts in this call
+            code, codes = both.book_all(base, base_length, many, amounts, len(many), draw_record_shifts(rng))
+            if code != 0:
+                raise Difference("book_all answers %d along a history from clear" % code)
+            for one, amount, code in zip(many, amounts, codes):
+                account(one, amount, code)
+        compare_with_records()
+        if rng.random() < 0.05:
+            both.clear_octets()                          # the next month
+            carried.clear()
+    both.compare_all_octets()
+
+
+# ---------------------------------------------------------------------------------------------------------------------
+# (i) Bookings on any memory, in any number of words
+# ---------------------------------------------------------------------------------------------------------------------
+
+COUNTS_OF_WORDS = (0, 1, 32767, 32769, 2, 255, 16384, 65536)
+
+
+def draw_words(rng):
+    """32,768 words: all 0, all one edge, edges, or anything up to 2^53."""
+    how = rng.randrange(5)
+    if how == 0:
+        return [0] * 32768
+    if how == 1:
+        return [rng.choice(EDGES)] * 32768
+    if how == 2:
+        return over_and_over(rng, EDGES, 32768)
+    some = [rng.randrange(MOST + 1) for _ in range(50)] + [rng.randrange(10 ** 12) for _ in range(50)]
+    return over_and_over(rng, some, 32768)
+
+
+def any_bookings(both, rng, number):
+    case = Strange(rng, blocks_damaged=rng.choice([0, 0, 0.5]), full=rng.random() < 0.8)
+    lent = case.lent.copy()
+    chosen = [TABLE_DAMAGE[number % len(TABLE_DAMAGE)]] if number % 10 else []
+    for _ in range(rng.choice([0, 0, 1, 2])):
+        chosen.append(rng.choice(RULE_DAMAGE + TABLE_DAMAGE))
+    spoil(rng, case, lent, chosen)
+    base, base_length = case.base, case.base_length
+    both.lend(lent, draw_shifts(rng))
+    both.lend_words(octets=draw_words(rng), shifts=draw_word_shifts(rng))
+    both.log.append("# damage: " + ", ".join(kind.__name__ for kind in chosen))
+
+    def amount_for(address):
+        code, hop = model.look_up(both.lent.first, both.lent.long, base, base_length, address)
+        return draw_amount(rng, both.octets[hop]) if hop < len(both.octets) else rng.randrange(WORD_TOP)
+
+    addresses = case.prefixes.addresses(case.address, case.length, 8)
+    addresses += [base + 256 * rng.randrange(case.blocks) + rng.randrange(256) for _ in range(6)]
+    # the blocks that were spoiled or are open: there is the damage
+    strange = [block for block in range(case.blocks) if lent.first[block] != case.lent.first[block]] + case.open_blocks
+    addresses += [base + 256 * block + rng.randrange(256) for block in rng.sample(strange, min(4, len(strange)))]
+    for address in addresses:
+        both.book(base, base_length, address, amount_for(address))
+    for amount in (0, WORD_TOP - 1):                     # too much together with all else
+        both.book(base, base_length, rng.choice(addresses), amount)
+
+    # many at once
+    for how_many in (0, 1, rng.choice([2, 7, 30, 100, 100, 1025])):
+        many = [rng.choice(addresses) for _ in range(how_many)]
+        both.book_all(base, base_length, many, [amount_for(address) for address in many], how_many,
+                      draw_record_shifts(rng))
+    # one hop many times: 30 starts in the middle, and a small record fits after it
+    routed = [address for address in addresses
+              if model.look_up(lent.first, lent.long, base, base_length, address)[0] in (0, 8)]
+    one = rng.choice(routed or addresses)
+    rest = max(MOST - both.octets[model.look_up(lent.first, lent.long, base, base_length, one)[1]], 0)
+    amounts = [rest // 5] * 8 + [rest - 5 * (rest // 5), 0, 1, WORD_TOP - 1]
+    many = [one] * len(amounts)
+    many[rng.randrange(len(many))] = rng.choice(addresses)
+    both.book_all(base, base_length, many, amounts, len(amounts), draw_record_shifts(rng))
+    # counts that differ, in each of the ways, by one and by all
+    n = rng.choice([1, 2, 5])
+    many = [rng.choice(addresses) for _ in range(n + 1)]
+    amounts = [amount_for(address) for address in many]
+    for a, m, c in ((n - 1, n, n), (n, n - 1, n), (n, n, n - 1), (n + 1, n, n), (n, n + 1, n), (n, n, n + 1), (0, n, n),
+                    (n, 0, n), (n, n, 0), (n - 1, n, n + 1), (0, 0, n)):
+        both.book_all(base, base_length, many[:a], amounts[:m], c, draw_record_shifts(rng))
+    both.compare_all_octets()
+
+    # tables and territories that are wrong, with right and with wrong numbers of words; 1 comes first
+    def all_refused(b, t):
+        for address in rng.sample(addresses, 2) + [(base - 1) % TOP]:
+            both.book(b, t, address, rng.choice([0, 1, WORD_TOP - 1]))
+        both.book_all(b, t, many, amounts, len(many), draw_record_shifts(rng))
+        both.book_all(b, t, [], [], 0)
+        both.book_all(b, t, many, amounts, len(many) + rng.choice([-1, 1]), draw_record_shifts(rng))
+
+    wrong = rng.choice([25, 26, 31, 32, 33, 56, 255, 256 + base_length, base_length + 1, base_length + 32, TOP - 1])
+    all_refused(rng.choice([base, 0]), wrong)
+    all_refused(base + 2 ** rng.randrange(32 - base_length), base_length)
+    tables = lent.copy()
+    if rng.random() < 0.5:
+        n = len(tables.first)
+        tables.first = resized(tables.first, max(0, n + rng.choice([-n, -1, 1, n, 256, -n // 2])), 0)
+    else:
+        n = len(tables.long)
+        tables.long = resized(tables.long, max(0, n + rng.choice([-1, 1, 255, 257, 128, -128, 256, -256])), 0)
+    both.lend(tables, draw_shifts(rng))
+    all_refused(base, base_length)
+    both.clear_octets()
+    if rng.random() < 0.5:
+        both.lend(lent, draw_shifts(rng))                # else the tables stay wrong too
+    count = COUNTS_OF_WORDS[number % len(COUNTS_OF_WORDS)]
+    both.lend_words(octets=over_and_over(rng, EDGES, count), shifts=draw_word_shifts(rng))
+    all_refused(base, base_length)
+    both.clear_octets()
+    both.compare_all_octets()
+
+
+# ---------------------------------------------------------------------------------------------------------------------
+# (j) Lines
+# ---------------------------------------------------------------------------------------------------------------------
+
+WRONG_LINES = (0, 32768, 32769, 65535, 65536, 65537, 98303, POINTER, POINTER + 1, TOP - 32767, TOP - 1)
+
+
+def draw_rate_words(rng):
+    """(octets, cents) of one line, both at most 2^53."""
+    how = rng.randrange(9)
+    if how == 0:
+        return rng.choice([0, 1, 2, 3, MOST - 1, MOST]), rng.choice([0, 1, 2, 3, MOST - 1, MOST])
+    if how == 1:                                         # near 1: not the same fraction, perhaps the same double
+        return MOST - rng.randrange(6), MOST - rng.randrange(6)
+    if how == 2:                                         # any sizes
+        return rng.randrange(2 ** rng.randint(1, 53)), rng.randrange(2 ** rng.randint(1, 53))
+    if how == 3:                                         # a quotient and one just beside it, with larger terms
+        octets, cents, times = rng.randint(1, 2 ** 26), rng.randint(1, 2 ** 26), rng.randint(1, 2 ** 26)
+        return octets * times + rng.choice([-1, 0, 0, 1]), cents * times + rng.choice([-1, 0, 0, 1])
+    if how == 4:                                         # whole quotients, and ones beside them
+        octets = rng.randint(1, 2 ** 26)
+        return octets, max(octets * rng.randint(0, 2 ** 26) + rng.choice([-1, 0, 0, 1]), 0)
+    if how == 5:
+        return rng.choice([1, 3, 7, 10, 49]), rng.randint(MOST - 1000, MOST)
+    if how == 6:
+        return rng.randint(MOST - 1000, MOST), rng.randint(0, 50)
+    if how == 7:                                         # as finance has them
+        return rng.randrange(10 ** 15), rng.randrange(10 ** 8)
+    return rng.randint(2 ** 52, MOST), rng.randint(2 ** 52, MOST)
+
+
+def lines(both, rng, number):
+    octets, cents = [rng.choice(EDGES)], [rng.choice(EDGES)]
+    while len(octets) < 1200:
+        octet_word, cent_word = draw_rate_words(rng)
+        octets.append(octet_word)
+        cents.append(cent_word)
+    # words at the edges, and above 2^53: 30, 31 or both
+    for octet_word in EDGES:
+        for cent_word in EDGES:
+            octets.append(octet_word)
+            cents.append(cent_word)
+    hops = list(range(1, len(octets))) + [32767, 32766, 2000]
+    octets += [0] * (32768 - len(octets))
+    cents += [0] * (32768 - len(cents))
+    for hop in (32767, 32766, 2000):
+        octets[hop], cents[hop] = rng.choice([draw_rate_words(rng), (rng.choice(EDGES), rng.choice(EDGES))])
+    both.lend_words(octets, cents, [], draw_word_shifts(rng))
+    both.cost_lines(hops + list(WRONG_LINES) + [rng.randrange(32768, TOP)])
+    # the sizes come first
+    which = number % 2
+    count = COUNTS_OF_WORDS[number // 2 % len(COUNTS_OF_WORDS)]
+    few = resized((octets, cents)[which], count, 7)
+    if which == 0:
+        both.lend_words(octets=few, shifts=draw_word_shifts(rng))
+    else:
+        both.lend_words(cents=few, shifts=draw_word_shifts(rng))
+    both.cost_lines([1, 2, 32767, 1300, 1340] + list(WRONG_LINES))
+    both.lend_words(resized(octets, count, 7), resized(cents, count, 7), shifts=draw_word_shifts(rng))
+    both.cost_lines([1, 32767, 0, 32768])
+
+
+# ---------------------------------------------------------------------------------------------------------------------
+# (k) Sheets
+# ---------------------------------------------------------------------------------------------------------------------
+
+def equal_lines(rng):
+    octets, cents = rng.choice([(7, 3), (1, MOST), (MOST, 1), (5, 0), (0, 5), (0, 0)])
+    return [octets] * 32768, [cents] * 32768
+
+
+def distinct_lines(rng):
+    return [1000] * 32768, rng.sample(range(10 ** 6), 32768)
+
+
+def in_order(rng):
+    return [1000] * 32768, list(range(40000, 40000 - 32768, -1))
+
+
+def in_opposite_order(rng):
+    return [1000] * 32768, list(range(32768))
+
+
+def many_ties(rng):
+    return rng.choices(range(1, 9), k=32768), rng.choices(range(8), k=32768)
+
+
+def ties_of_fractions(rng):
+    """Different fractions of which many are the same double."""
+    near = [MOST - i for i in range(200)]
+    return rng.choices(near, k=32768), rng.choices(near, k=32768)
+
+
+def cost_alone(rng):
+    return [0] * 32768, rng.sample(range(1, 10 ** 6), 32768)
+
+
+def cost_alone_with_ties(rng):
+    return [0] * 32768, rng.choices([0, 1, 2, MOST - 1, MOST, 77], k=32768)
+
+
+def the_three_kinds(rng):
+    return ([rng.choice([0, 0, 1, 2, 3, rng.randrange(10 ** 12)]) for _ in range(32768)],
+            [rng.choice([0, 0, 1, 2, 3, rng.randrange(10 ** 8)]) for _ in range(32768)])
+
+
+def any_lines(rng):
+    words = [draw_rate_words(rng) for _ in range(32768)]
+    return [octets for octets, cents in words], [cents for octets, cents in words]
+
+
+def edges_alone(rng):
+    words = [word for word in EDGES if word <= MOST]
+    return rng.choices(words, k=32768), rng.choices(words, k=32768)
+
+
+def few_lines(rng):
+    octets, cents = [0] * 32768, [0] * 32768
+    for _ in range(rng.choice([1, 2, 3, 20])):
+        hop = rng.choice([1, 2, 32766, 32767, rng.randint(1, 32767)])
+        octets[hop], cents[hop] = draw_rate_words(rng)
+    return octets, cents
+
+
+SHEETS = (equal_lines, distinct_lines, many_ties, ties_of_fractions, the_three_kinds, cost_alone, cost_alone_with_ties,
+          any_lines, edges_alone, few_lines, in_order, in_opposite_order)
+
+
+def sheets(both, rng, number):
+    family = SHEETS[number % len(SHEETS)]
+    octets, cents = family(rng)
+    octets[0] = rng.choice([0, 1, MOST])
+    cents[0] = rng.choice(EDGES)                         # unread, so anything
+    room = [rng.randrange(TOP)] * 32767
+    both.lend_words(octets, cents, room, draw_word_shifts(rng))
+    both.log.append("# " + family.__name__)
+    if both.cost_sheet() != 0:
+        raise Difference("the sheet was meant to be made")
+    # the lines at both ends of it, and some others
+    both.cost_lines(both.hops[:20] + both.hops[-20:] + [rng.randint(1, 32767) for _ in range(20)])
+
+    # refusals: each size, words that passed 2^53 at both ends and elsewhere, and some of these together
+    def refused(what, octets_now, cents_now, room_now):
+        both.lend_words(octets_now, cents_now, room_now, draw_word_shifts(rng))
+        both.log.append("# " + what)
+        both.cost_sheet()
+
+    def spoiled(words, place):
+        words = list(words)
+        words[place] = rng.choice([MOST + 1, MOST + 1, MOST + 2, 2 ** 63, WORD_TOP - 1])
+        return words
+
+    place = (0, 1, 32767, rng.randrange(32768))[number % 4]
+    other = rng.choice([1, 32767, rng.randrange(1, 32768)])
+    count = COUNTS_OF_WORDS[number // 2 % len(COUNTS_OF_WORDS)]
+    refused("octets, word %d" % place, spoiled(octets, place), None, room)
+    refused("and cents, word %d" % other, None, spoiled(cents, other), None)
+    refused("cents alone", octets, None, None)
+    if place != other:
+        refused("cents, word %d" % place, None, spoiled(cents, place), None)
+    refused("%d words of octets, too" % count, resized(octets, count, MOST + 1), None, None)
+    refused("%d words of cents" % count, octets, resized(cents, count, 0), None)
+    few = rng.choice([0, 1, 32766, 32768, 32769, 16384])
+    refused("room for %d" % few, rng.choice([octets, spoiled(octets, place)]), cents, resized(room, few, 77))
+    refused("room for %d, %d words" % (few, count), resized(octets, count, 0), resized(cents, count, 0), None)
+
+
+# ---------------------------------------------------------------------------------------------------------------------
 # The run
 # ---------------------------------------------------------------------------------------------------------------------
 
@@ -1214,8 +1790,21 @@ KINDS = {
     "e": ("records", records, 3),
     "f": ("look up on bytes", bytes_tables, 3),
     "g": ("the paper's figures and T = 0", figures, 0),
+    "h": ("bookings along histories", booking_histories, 2),
+    "i": ("bookings on any memory", any_bookings, 6),
+    "j": ("lines", lines, 2),
+    "k": ("sheets", sheets, 2),
 }
 ROUNDS = 20
+
+# The codes that a run of all rounds must have seen, by group: without them the cases are not what they are meant to be.
+TO_SEE = {
+    "h": {"updates": (0,), "clears": (0,), "bookings": (0, 3, 30), "whole": (0,), "together": (0, 3, 30)},
+    "i": {"clears": (0, 1), "bookings": (0, 1, 3, 4, 30), "not 30 but": (1, 3, 4), "whole": (0, 1),
+          "together": (0, 3, 4, 30)},
+    "j": {"rates": (0,), "lines without": (0, 1, 2, 30, 31)},
+    "k": {"sheets": (0, 1, 30, 31), "rates": (0,), "lines without": (0,)},
+}
 
 
 def too_slow(signal_number, frame):
@@ -1227,7 +1816,7 @@ def main():
     parser.add_argument("--seed", type=int, default=1)
     parser.add_argument("--seconds", type=float, help="run about this long, instead of a fixed amount of work")
     parser.add_argument("--case", help="run this one case again, as KIND:NUMBER")
-    parser.add_argument("--kinds", default="".join(KINDS), help="run only these kinds, as abcdefg")
+    parser.add_argument("--kinds", default="".join(KINDS), help="run only these kinds, as %s" % "".join(KINDS))
     parser.add_argument("driver", nargs=argparse.REMAINDER, help="the command that starts the driver")
     arguments = parser.parse_args()
     if not arguments.driver:
@@ -1253,13 +1842,13 @@ def main():
     def time_left():
         return arguments.seconds is None or time.time() - started < arguments.seconds
 
+    rounds = 0
     if arguments.case:
         letter, number = arguments.case.split(":")
         run(letter, int(number))
     else:
         if "g" in arguments.kinds:
             run("g", 0)
-        rounds = 0
         while time_left() if arguments.seconds is not None else rounds < ROUNDS:
             for letter, (what, function, cases) in KINDS.items():
                 if letter in arguments.kinds and time_left():
@@ -1276,6 +1865,11 @@ def main():
     if status != 0:
         print("the driver ended with status %d" % status)
         sys.exit(1)
+    unseen = ["%s: %s %d" % (letter, group, code) for letter in TO_SEE if letter in arguments.kinds and rounds >= ROUNDS
+              for group, codes in TO_SEE[letter].items() for code in codes if (group, code) not in calls[letter][2]]
+    if unseen:
+        print("check: these were never seen: %s" % ", ".join(unseen))
+        sys.exit(1)
     print("check: %d calls compared, 0 differ" % sum(compared for cases, compared, codes in calls.values()))
 
 
@@ -1285,6 +1879,11 @@ def print_difference(both, arguments, letter, number, difference):
     if both.lent_at_start is not None:
         print("lent at first:")
         print(lent_text(both.lent_at_start))
+    if both.words_at_start:
+        if both.lent_at_start is None:
+            print("lent at first:")
+        for name, words in both.words_at_start.items():
+            print("  %-6s (%d) %s" % (name, len(words), some_runs(words)))
     if both.lent_as_bytes is not None:
         print("lent as bytes: first %d bytes %s" % (len(both.lent_as_bytes[0]), both.lent_as_bytes[0].hex()))
         print("               long  %d bytes %s" % (len(both.lent_as_bytes[1]), both.lent_as_bytes[1].hex()))

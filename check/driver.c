@@ -3,8 +3,10 @@
 
    All numbers on the wire are little-endian. A command is one letter and its numbers:
 
-     M  which:1 shift:1 bytes:8 contents     lend slice `which` (0 first, 1 long, 2 owners, 3 rules) with these contents,
-                                             its start moved by `shift` bytes off a multiple of 16; no answer
+     M  which:1 shift:1 bytes:8 contents     lend slice `which` (0 first, 1 long, 2 owners, 3 rules, 4 octets, 5 cents,
+                                             6 hops) with these contents, its start moved by `shift` bytes off a
+                                             multiple of 16; no answer
+     D  which:1                              the contents of a slice
      C  base:4 length:4 dump:1                                       clear
      A  base:4 length:4 address:4 length:4 hop:4 dump:1              announce
      W  base:4 length:4 address:4 length:4 dump:1                    withdraw
@@ -13,18 +15,30 @@
      V  base:4 length:4 count:4 room:4 addresses                     look up all, one call
      R  expected:4 bytes:4 contents                                  read a record
      P  kind:1 serial:4 address:4 length:1 hop:2 bytes:4 contents    write a record into a room with these contents
+     Z                                                               clear the octets
+     B  base:4 length:4 address:4 amount:8                           book
+     K  base:4 length:4 shift:1 x 3 count:4 x 3 addresses amounts    book all, one call: addresses, amounts:8, codes
+     I  count:4 hops                                                 cost line, one call for each hop
+     S                                                               cost sheet
      Q                                                               end
 
    and the answers are
 
-     C A W H   code:4 cells:4 guards:1 differing:4 x 4, and with dump the contents of the four slices
-     L         guards:1 changed:1 answers:4 x count
-     V         guards:1 changed:1 returned:4 answers:4 x room
-     R         guards:1 changed:1 code:4 kind:1 serial:4 address:4 length:1 hop:2
-     P         guards:1 code:4 contents
+     D         contents
+     C A W H   code:4 cells:4 guards:2 differing:4 x 7, and with dump the contents of the first four slices
+     L         guards:2 changed:2 answers:4 x count
+     V         guards:2 changed:2 returned:4 answers:4 x room
+     R         guards:2 changed:2 code:4 kind:1 serial:4 address:4 length:1 hop:2
+     P         guards:2 changed:2 code:4 contents
+     Z B       guards:2 changed:2 code:4 octets
+     K         guards:2 changed:2 code:4 octets codes:4 x count
+     I         guards:2 changed:2, and code:4 traffic:4 rate:8 for each hop, the rate as the bytes of the double
+     S         guards:2 changed:2 code:4 hops:4 x lent
 
-   `guards` is not 0 if a byte before or after some slice was written, `changed` if a byte was that a call only reads,
-   `differing` is the number of elements of each slice that differ from before the call. */
+   `guards` is not 0 if a byte before or after some slice was written, `changed` if a byte was that a call only reads; bit k
+   is slice k, and bits 7 to 9 what came with the call. `differing` is the number of elements of each slice that differ
+   from before the call; `octets` says that number and then each of these words, place:4 and word:8, so that with those
+   from before the call every word is known. */
 
 #include "rakmolthi.h"
 
@@ -32,7 +46,7 @@
 #include <stdlib.h>
 #include <string.h>
 
-enum { GUARD = 256, SLICES = 4 };
+enum { GUARD = 256, SLICES = 7, TABLES = 4, OCTETS = 4, CENTS = 5, SHEET = 6 };
 
 typedef struct {
     uint8_t *room;      /* what malloc gave */
@@ -41,7 +55,7 @@ typedef struct {
     size_t bytes;
 } slice;
 
-static const size_t width[SLICES] = { 4, 4, 4, 8 };
+static const size_t width[SLICES] = { 4, 4, 4, 8, 8, 8, 4 };
 static slice lent[SLICES];
 
 /* ------------------------------------------------------------------------------------------------- the wire */
@@ -108,12 +122,21 @@ static int guards_broken(const slice *s)
 
 static int changed(const slice *s) { return s->bytes != 0 && memcmp(s->copy, s->start, s->bytes) != 0; }
 
+/* The first element from byte i on that differs from before the call, or the end; what is the same is passed in large steps. */
+static size_t next_differing(const slice *s, size_t each, size_t i)
+{
+    while (i + each <= s->bytes && memcmp(s->copy + i, s->start + i, each) == 0) {
+        int large = i % 4096 == 0 && i + 4096 <= s->bytes && memcmp(s->copy + i, s->start + i, 4096) == 0;
+        i += large ? 4096 : each;
+    }
+    return i + each <= s->bytes ? i : s->bytes;
+}
+
 static uint32_t differing(const slice *s, size_t each)
 {
     uint32_t count = 0;
     size_t i;
-    for (i = 0; i + each <= s->bytes; i += each)
-        if (memcmp(s->copy + i, s->start + i, each) != 0) count++;
+    for (i = next_differing(s, each, 0); i < s->bytes; i = next_differing(s, each, i + each)) count++;
     return count;
 }
 
@@ -140,9 +163,23 @@ static void answer_update(rk_report report, int dump)
     int k;
     give32(report.code);
     give32(report.cells);
-    give8(lent_guards());
+    give16(lent_guards());
     for (k = 0; k < SLICES; k++) give32(differing(&lent[k], width[k]));
-    if (dump) for (k = 0; k < SLICES; k++) give(lent[k].start, lent[k].bytes);
+    if (dump) for (k = 0; k < TABLES; k++) give(lent[k].start, lent[k].bytes);
+}
+
+/* Which slices changed, without one that the call may write. */
+static uint32_t changed_but(int written) { return lent_changed() & ~(1u << written); }
+
+static void give_octets(void)
+{
+    const slice *s = &lent[OCTETS];
+    size_t i;
+    give32(differing(s, 8));
+    for (i = next_differing(s, 8, 0); i < s->bytes; i = next_differing(s, 8, i + 8)) {
+        give32((uint32_t)(i / 8));
+        give(s->start + i, 8);
+    }
 }
 
 /* ------------------------------------------------------------------------------------------------- the calls */
@@ -151,6 +188,9 @@ static void answer_update(rk_report report, int dump)
 #define LONG   ((uint32_t *)(void *)lent[1].start), lent[1].bytes / 4
 #define OWNERS ((uint32_t *)(void *)lent[2].start), lent[2].bytes / 4
 #define RULES  ((uint64_t *)(void *)lent[3].start), lent[3].bytes / 8
+#define FLOWN  ((uint64_t *)(void *)lent[OCTETS].start), lent[OCTETS].bytes / 8
+#define PAID   ((uint64_t *)(void *)lent[CENTS].start), lent[CENTS].bytes / 8
+#define HOPS   ((uint32_t *)(void *)lent[SHEET].start), lent[SHEET].bytes / 4
 
 static void lend(void)
 {
@@ -159,6 +199,13 @@ static void lend(void)
     if (which >= SLICES) { fprintf(stderr, "driver: no slice %u\n", which); exit(2); }
     set_up(&lent[which], (size_t)bytes, shift);
     take(lent[which].start, (size_t)bytes);
+}
+
+static void show(void)
+{
+    uint8_t which = take8();
+    if (which >= SLICES) { fprintf(stderr, "driver: no slice %u\n", which); exit(2); }
+    give(lent[which].start, lent[which].bytes);
 }
 
 static void update(char call)
@@ -188,8 +235,8 @@ static void look_up(void)
     lent_before();
     for (i = 0; i < count; i++)
         numbers[i] = rk_look_up(lent[0].start, lent[0].bytes, lent[1].start, lent[1].bytes, base, base_length, numbers[i]);
-    give8(lent_guards());
-    give8(lent_changed());
+    give16(lent_guards());
+    give16(lent_changed());
     for (i = 0; i < count; i++) give32(numbers[i]);
     free(numbers);
 }
@@ -207,8 +254,8 @@ static void look_up_all(void)
     before_call(&addresses);
     returned = rk_look_up_all(FIRST, LONG, base, base_length, (uint32_t *)(void *)addresses.start, count,
                               (uint32_t *)(void *)answers.start, room);
-    give8(lent_guards() | (uint32_t)guards_broken(&addresses) << 4 | (uint32_t)guards_broken(&answers) << 5);
-    give8(lent_changed() | (uint32_t)changed(&addresses) << 4);
+    give16(lent_guards() | (uint32_t)guards_broken(&addresses) << 7 | (uint32_t)guards_broken(&answers) << 8);
+    give16(lent_changed() | (uint32_t)changed(&addresses) << 7);
     give32(returned);
     for (i = 0; i < room; i++) { memcpy(&number, answers.start + 4 * i, 4); give32(number); }
 }
@@ -223,8 +270,8 @@ static void read_record(void)
     before_call(&record);
     lent_before();
     reading = rk_read_record(record.start, bytes, expected);
-    give8(lent_guards() | (uint32_t)guards_broken(&record) << 4);
-    give8(lent_changed() | (uint32_t)changed(&record) << 4);
+    give16(lent_guards() | (uint32_t)guards_broken(&record) << 7);
+    give16(lent_changed() | (uint32_t)changed(&record) << 7);
     give32(reading.code);
     give8(reading.update.kind);
     give32(reading.update.serial);
@@ -249,9 +296,89 @@ static void write_record(void)
     take(room.start, bytes);
     lent_before();
     code = rk_write_record(room.start, bytes, update);
-    give8(lent_guards() | (uint32_t)guards_broken(&room) << 4 | (uint32_t)(lent_changed() != 0) << 5);
+    give16(lent_guards() | (uint32_t)guards_broken(&room) << 7);
+    give16(lent_changed());
     give32(code);
     give(room.start, bytes);
+}
+
+static void clear_octets(void)
+{
+    uint32_t code;
+    lent_before();
+    code = rk_clear_octets(FLOWN);
+    give16(lent_guards());
+    give16(changed_but(OCTETS));
+    give32(code);
+    give_octets();
+}
+
+static void book(void)
+{
+    uint32_t base = take32(), base_length = take32(), address = take32(), code;
+    uint64_t amount = take64();
+    lent_before();
+    code = rk_book(FIRST, LONG, FLOWN, base, base_length, address, amount);
+    give16(lent_guards());
+    give16(changed_but(OCTETS));
+    give32(code);
+    give_octets();
+}
+
+static void book_all(void)
+{
+    static slice addresses, amounts, codes;
+    uint32_t base = take32(), base_length = take32(), shift[3], count[3], returned;
+    int k;
+    for (k = 0; k < 3; k++) shift[k] = take8();
+    for (k = 0; k < 3; k++) count[k] = take32();
+    set_up(&addresses, 4 * (size_t)count[0], shift[0]);
+    set_up(&amounts, 8 * (size_t)count[1], shift[1]);
+    set_up(&codes, 4 * (size_t)count[2], shift[2]);
+    take(addresses.start, addresses.bytes);
+    take(amounts.start, amounts.bytes);
+    memset(codes.start, 0xEE, codes.bytes);
+    lent_before();
+    before_call(&addresses);
+    before_call(&amounts);
+    returned = rk_book_all(FIRST, LONG, FLOWN, base, base_length, (uint32_t *)(void *)addresses.start, count[0],
+                           (uint64_t *)(void *)amounts.start, count[1], (uint32_t *)(void *)codes.start, count[2]);
+    give16(lent_guards() | (uint32_t)guards_broken(&addresses) << 7 | (uint32_t)guards_broken(&amounts) << 8
+           | (uint32_t)guards_broken(&codes) << 9);
+    give16(changed_but(OCTETS) | (uint32_t)changed(&addresses) << 7 | (uint32_t)changed(&amounts) << 8);
+    give32(returned);
+    give_octets();
+    give(codes.start, codes.bytes);
+}
+
+static void cost_lines(void)
+{
+    uint32_t count = take32(), i;
+    uint32_t *hops = memory(4 * (size_t)count);
+    rk_line *lines = memory(sizeof *lines * (size_t)count);
+    for (i = 0; i < count; i++) hops[i] = take32();
+    lent_before();
+    for (i = 0; i < count; i++) lines[i] = rk_cost_line(FLOWN, PAID, hops[i]);
+    give16(lent_guards());
+    give16(lent_changed());
+    for (i = 0; i < count; i++) {
+        give32(lines[i].code);
+        give32(lines[i].traffic);
+        give(&lines[i].rate, 8);
+    }
+    free(hops);
+    free(lines);
+}
+
+static void cost_sheet(void)
+{
+    uint32_t code;
+    lent_before();
+    code = rk_cost_sheet(FLOWN, PAID, HOPS);
+    give16(lent_guards());
+    give16(changed_but(SHEET));
+    give32(code);
+    give(lent[SHEET].start, lent[SHEET].bytes);
 }
 
 int main(void)
@@ -266,6 +393,12 @@ int main(void)
         case 'V': look_up_all(); break;
         case 'R': read_record(); break;
         case 'P': write_record(); break;
+        case 'D': show(); break;
+        case 'Z': clear_octets(); break;
+        case 'B': book(); break;
+        case 'K': book_all(); break;
+        case 'I': cost_lines(); break;
+        case 'S': cost_sheet(); break;
         default: fprintf(stderr, "driver: no command %d\n", command); return 2;
         }
         fflush(stdout);

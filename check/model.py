@@ -10,6 +10,8 @@ quotation marks are the paper's own.
     Lent.rules    the rule words
 
 A live list is a list of (address, length, hop).
+
+The cost sheet came later, in a request of its own; its part says so.
 """
 
 
@@ -518,6 +520,110 @@ def bound(before, base, base_length, address, length):
             if is_open(before, base, block):
                 total += 255
     return total
+
+
+# ---------------------------------------------------------------------------------------------------------------------
+# The cost sheet: octets and cents are lists of numbers, one for each hop, and the sheet is a list of hops. The words in
+# quotation marks are those of the request for it
+# ---------------------------------------------------------------------------------------------------------------------
+
+NO_TRAFFIC = "no traffic"
+
+
+def wrong_count_of_words(words):
+    """"32,768 lent 64-bit words, one per hop": 1 to 32,767, and word 0."""
+    return len(words) != 32768
+
+
+def passed(word):
+    """Has this word passed 2^53? 2^53 itself has not."""
+    return word > 2 ** 53
+
+
+def clear_octets(octets):
+    """The refusal number, or 0. "one per hop and cleared first"."""
+    if wrong_count_of_words(octets):
+        return 1
+    for hop in range(32768):
+        octets[hop] = 0
+    return 0
+
+
+def wrong_for_records(first, long, octets, base, base_length):
+    """Number 1 of look up, "1 also for another number of words"."""
+    return (wrong_territory(base, base_length) or wrong_sizes_of_tables(first, long, base_length)
+            or wrong_count_of_words(octets))
+
+
+def book(first, long, octets, base, base_length, address, amount):
+    """The refusal number, or 0. A refused record leaves all words as they are."""
+    if wrong_for_records(first, long, octets, base, base_length):
+        return 1
+    code, hop = look_up(first, long, base, base_length, address)
+    if code != 0 and code != 8:
+        return code                          # "those of look up except 8"
+    if code == 8:
+        hop = 0                              # "word 0 takes "no route""
+    if passed(octets[hop] + amount):         # Python's numbers have no end, so this sum never wraps
+        return 30                            # "then 30 if a word would pass 2^53"
+    octets[hop] = octets[hop] + amount       # "looked up and added"
+    return 0
+
+
+def book_all(first, long, octets, base, base_length, addresses, amounts, codes):
+    """The refusal number of the whole, with nothing written, or 0 and each record's own number in `codes`."""
+    if wrong_for_records(first, long, octets, base, base_length):
+        return 1
+    if len(addresses) != len(amounts) or len(addresses) != len(codes):
+        return 1
+    for i in range(len(addresses)):
+        codes[i] = book(first, long, octets, base, base_length, addresses[i], amounts[i])
+    return 0
+
+
+def rate_of(octets, cents):
+    """"one rounded division of cents by octets, both converted without loss". Python divides two integers as the exact
+    fraction and rounds once, to the nearest double (ties to even); test_model.py looks at that with fractions alone."""
+    return cents / octets
+
+
+def cost_line(octets, cents, hop):
+    """(refusal number, rate or NO_TRAFFIC or None): "either a rate in double precision or the words "no traffic"". The
+    line looks at the two words of its own hop."""
+    if wrong_count_of_words(octets) or wrong_count_of_words(cents):
+        return 1, None                       # "1 for sizes"
+    if not 1 <= hop <= 32767:
+        return 2, None                       # "2 for a line's hop outside 1 to 32,767"
+    if passed(octets[hop]):
+        return 30, None                      # "30 if a word has passed it"
+    if passed(cents[hop]):
+        return 31, None                      # "31 if cents have"
+    if octets[hop] == 0:
+        return 0, NO_TRAFFIC
+    return 0, rate_of(octets[hop], cents[hop])
+
+
+def rank(octets, cents, hop):
+    """What is sorted by, the smallest first, which is "dearest first"."""
+    if octets[hop] == 0 and cents[hop] != 0:
+        return 0, -cents[hop], hop           # "A line with cost and no traffic ranks above every rate, by cents"
+    if octets[hop] != 0:
+        return 1, -rate_of(octets[hop], cents[hop]), hop
+    return 2, 0, hop                         # "one with neither below every rate"; "ties go to the lower hop"
+
+
+def cost_sheet(octets, cents, hops):
+    """The refusal number, or 0 and the sheet in `hops`."""
+    if wrong_count_of_words(octets) or wrong_count_of_words(cents) or len(hops) != 32767:
+        return 1                             # "32,767 lent hop numbers"
+    for hop in range(32768):
+        if passed(octets[hop]):
+            return 30                        # any of the words, word 0 too
+    for hop in range(1, 32768):
+        if passed(cents[hop]):
+            return 31                        # "word 0 unread"
+    hops[:] = sorted(range(1, 32768), key=lambda hop: rank(octets, cents, hop))
+    return 0
 
 
 # ---------------------------------------------------------------------------------------------------------------------

@@ -4,9 +4,10 @@ No library is needed. Every figure below is copied from the paper or worked out 
 """
 
 import sys
+from fractions import Fraction
 
 import model
-from model import Lent
+from model import Lent, NO_TRAFFIC
 
 failures = 0
 tests = 0
@@ -262,11 +263,173 @@ def records():
     same("the serial after 4294967295", model.next_serial(4294967295), 0)
 
 
+# ---------------------------------------------------------------------------------------------------------------------
+# The cost sheet
+# ---------------------------------------------------------------------------------------------------------------------
+
+MOST = 2 ** 53
+
+
+def words(**given):
+    """32,768 words, 0 but for those given: words(h7=5)."""
+    made = [0] * 32768
+    for name, word in given.items():
+        made[int(name[1:])] = word
+    return made
+
+
+def bookings():
+    b = ip("10.0.0.0")
+    # 10.0.0.0/24 goes to hop 5, 10.0.1.0 to hop 32767 and the rest of 10.0.1.0/24 nowhere; 10.0.2.0/24 is damaged, and
+    # 10.0.3.0/24 points to a segment that is not lent
+    first = [model.direct(5, 24), 2 ** 31, 63, 2 ** 31 + 1]
+    long = [model.direct(32767, 32)] + [0] * 255
+    octets = [9] * 32768
+    same("clear the octets", (model.clear_octets(octets), octets), (0, words()))
+    for size in (0, 1, 32767, 32769):
+        octets = [9] * size
+        same("clear %d words" % size, (model.clear_octets(octets), octets), (1, [9] * size))
+
+    octets = words()
+    def book(text, amount):
+        return model.book(first, long, octets, b, 22, ip(text), amount)
+    same("to a hop", (book("10.0.0.77", 1000), octets), (0, words(h5=1000)))
+    same("no route", (book("10.0.1.255", 7), octets), (0, words(h5=1000, h0=7)))
+    same("to the last hop", (book("10.0.1.0", 1), octets), (0, words(h5=1000, h0=7, h32767=1)))
+    same("once more", (book("10.0.0.255", 24), octets), (0, words(h5=1024, h0=7, h32767=1)))
+    same("nothing", (book("10.0.0.0", 0), octets), (0, words(h5=1024, h0=7, h32767=1)))
+    same("outside", (book("10.0.4.0", 5), octets), (3, words(h5=1024, h0=7, h32767=1)))
+    same("just before", book("9.255.255.255", 5), 3)
+    same("damaged", (book("10.0.2.0", 5), octets), (4, words(h5=1024, h0=7, h32767=1)))
+    same("not lent", book("10.0.3.0", 5), 4)
+    same("one too much", (book("10.0.0.0", MOST - 1023), octets), (30, words(h5=1024, h0=7, h32767=1)))
+    same("just enough", (book("10.0.0.0", MOST - 1024), octets), (0, words(h5=MOST, h0=7, h32767=1)))
+    same("full, and nothing more", book("10.0.0.0", 0), 0)
+    same("full, and one more", book("10.0.0.0", 1), 30)
+    same("no wrapping", book("10.0.0.0", 2 ** 64 - 1), 30)
+    same("no wrapping to 0", book("10.0.1.0", 2 ** 64 - 1), 30)
+    same("no route, one too much", book("10.0.1.1", MOST - 6), 30)
+    same("no route, just enough", (book("10.0.1.1", MOST - 7), octets), (0, words(h5=MOST, h0=MOST, h32767=1)))
+    octets = words(h5=MOST + 1, h0=2 ** 64 - 1, h6=MOST + 1)
+    same("passed already", book("10.0.0.0", 0), 30)
+    same("passed already, no route", book("10.0.1.1", 0), 30)
+    same("other words are not looked at", book("10.0.1.0", MOST), 0)
+    same("nothing else changed", octets, words(h5=MOST + 1, h0=2 ** 64 - 1, h6=MOST + 1, h32767=MOST))
+    # the order: 1, 3, 4, 30
+    same("3 before 30", book("10.0.4.0", 2 ** 64 - 1), 3)
+    same("4 before 30", book("10.0.2.0", 2 ** 64 - 1), 4)
+    for size in (0, 1, 32767, 32769):
+        octets = [MOST] * size
+        same("%d words, outside and too much" % size, book("10.0.4.0", 2 ** 64 - 1), 1)
+        same("%d words, damaged" % size, book("10.0.2.0", 0), 1)
+        same("%d words, nothing else wrong" % size, (book("10.0.0.0", 0), octets), (1, [MOST] * size))
+    octets = words()
+    same("a table too short", model.book(first[:3], long, octets, b, 22, ip("10.0.4.0"), MOST + 1), 1)
+    same("a segment cut", model.book(first, long[:255], octets, b, 22, b, 1), 1)
+    same("a wrong territory", model.book(first, long, octets, b + 256, 22, b, 1), 1)
+    same("nothing was written", octets, words())
+
+    # many: the third and fourth record bring hop 5 above 2^53, the last does not
+    addresses = [ip(text) for text in ("10.0.0.0", "10.0.4.0", "10.0.0.1", "10.0.0.2", "10.0.1.9", "10.0.2.0",
+                                       "10.0.0.3")]
+    amounts = [MOST - 10, 1, 11, 2 ** 64 - 1, 3, 1, 10]
+    codes = [77] * 7
+    same("many", (model.book_all(first, long, octets, b, 22, addresses, amounts, codes), codes, octets),
+         (0, [0, 3, 30, 30, 0, 4, 0], words(h5=MOST, h0=3)))
+    for a, m, c in ((6, 7, 7), (7, 6, 7), (7, 7, 6), (6, 6, 7), (7, 7, 8), (0, 7, 7), (7, 7, 0), (0, 0, 1), (0, 1, 0)):
+        octets, codes = words(h5=1), [77] * c
+        made = model.book_all(first, long, octets, b, 22, addresses[:a], amounts[:m], codes)
+        same("many, counts %d %d %d" % (a, m, c), (made, codes, octets), (1, [77] * c, words(h5=1)))
+    same("none", model.book_all(first, long, octets, b, 22, [], [], []), 0)
+    same("none, into too few words", model.book_all(first, long, octets[1:], b, 22, [], [], []), 1)
+    codes = [77]
+    same("many, a wrong territory", (model.book_all(first, long, octets, b, 25, [b], [1], codes), codes), (1, [77]))
+
+
+def lines():
+    def line(octets, cents):
+        return model.cost_line(words(h3=octets), words(h3=cents), 3)
+    for octets, cents, wanted in [(4, 1, 0.25), (1, 4, 4.0), (7, 0, 0.0), (0, 0, NO_TRAFFIC), (0, 5, NO_TRAFFIC),
+                                  (1, MOST, 2.0 ** 53), (MOST, 1, 2.0 ** -53), (MOST, MOST, 1.0), (0, MOST, NO_TRAFFIC),
+                                  (MOST, 0, 0.0), (10, 1, 0.1), (3, 1, 6004799503160661 / 2 ** 54),
+                                  (MOST - 1, MOST, 1 + 2.0 ** -52), (MOST, MOST - 1, 1 - 2.0 ** -53)]:
+        same("the line %d / %d" % (cents, octets), line(octets, cents), (0, wanted))
+    same("not the same fractions", Fraction(MOST - 1, MOST) == Fraction(MOST - 2, MOST - 1), False)
+    same("but the same double", line(MOST, MOST - 1), line(MOST - 1, MOST - 2))
+    # the division: no double lies nearer to the fraction, seen without any rounding. From 2^e to 2^(e+1) the doubles
+    # are the multiples of 2^(e-52), so one of them that is at most half of that away is the nearest
+    some_octets = (1, 2, 3, 5, 6, 7, 10, 49, 1000, 1001, 2 ** 24 + 1, 2 ** 32 - 1, 10 ** 12 + 39, 2 ** 52 + 1,
+                   MOST - 1, MOST)
+    some_cents = (1, 2, 3, 5, 9, 11, 97, 999, 2 ** 24 + 3, 2 ** 32 + 1, 10 ** 9 + 7, 2 ** 52 - 1, MOST - 3,
+                  MOST - 1, MOST)
+    for octets in some_octets:
+        for cents in some_cents:
+            fraction, rate = Fraction(cents, octets), Fraction(model.rate_of(octets, cents))
+            step = Fraction(1, 2 ** 120)                 # far too small, and doubled until it is 2^(e-52)
+            while 2 ** 53 * step <= fraction:
+                step *= 2
+            same("%d / %d is a double" % (cents, octets), rate % step, 0)
+            same("%d / %d is the nearest" % (cents, octets), abs(rate - fraction) <= step / 2, True)
+            same("%d / %d keeps its bounds" % (cents, octets), 0 < rate <= MOST, True)
+    # refusals, in their order
+    octets, cents = words(h1=MOST + 1, h2=MOST + 1, h4=MOST), words(h1=MOST + 1, h3=2 ** 64 - 1, h4=MOST)
+    for hop, wanted in [(0, 2), (32768, 2), (2 ** 32 - 1, 2), (65537, 2), (1, 30), (2, 30), (3, 31)]:
+        same("the line of hop %d" % hop, model.cost_line(octets, cents, hop), (wanted, None))
+    same("the edges pass", model.cost_line(octets, cents, 4), (0, 1.0))
+    same("the words of other hops are not looked at", model.cost_line(octets, cents, 5), (0, NO_TRAFFIC))
+    same("the last hop", model.cost_line(words(h32767=2), words(h32767=1), 32767), (0, 0.5))
+    for size in (0, 1, 32767, 32769):
+        same("%d words of octets" % size, model.cost_line([2 ** 64 - 1] * size, cents, 0), (1, None))
+        same("%d words of cents" % size, model.cost_line(octets, [2 ** 64 - 1] * size, 1), (1, None))
+
+
+def sheets():
+    def sheet(octets, cents):
+        hops = [77] * 32767
+        return model.cost_sheet(octets, cents, hops), hops
+    def rest(*hops):
+        """These first, then all others in order."""
+        return 0, list(hops) + [hop for hop in range(1, 32768) if hop not in hops]
+    same("nothing at all", sheet(words(), words()), rest())
+    same("all lines equal", sheet([3] * 32768, [2] * 32768), rest())
+    same("word 0 is no line", sheet(words(h0=5), words(h0=2 ** 64 - 1)), rest())
+    # hop 9: 100 cents and no traffic; hops 2 and 40: 7 cents and none; hop 32767: 2^53 an octet; hop 5: 1/2; hops 4 and
+    # 6: 1/3, and 2/6; hop 3: 0 cents for 8 octets; all others have neither, and hop 1 is the first of them
+    octets = words(h32767=1, h5=2, h4=3, h6=6, h3=8)
+    cents = words(h9=100, h2=7, h40=7, h32767=MOST, h5=1, h4=1, h6=2)
+    same("the three kinds", sheet(octets, cents), rest(9, 2, 40, 32767, 5, 4, 6, 3))
+    # rates that are not the same fraction but the same double tie, and go to the lower hop
+    same("the same double", sheet(words(h7=MOST - 1, h8=MOST), words(h7=MOST - 2, h8=MOST - 1)), rest(7, 8))
+    same("though it is the smaller fraction", Fraction(MOST - 2, MOST - 1) < Fraction(MOST - 1, MOST), True)
+    same("another double", sheet(words(h7=MOST, h8=MOST - 1), words(h7=MOST - 1, h8=MOST - 1)), rest(8, 7))
+    same("1 cent for nothing before 2^53 for one", sheet(words(h1=1), words(h1=MOST, h2=1)), rest(2, 1))
+    same("0 cents for traffic before neither", sheet(words(h9=1), words()), rest(9))
+    same("dearer and dearer", sheet([1] * 32768, list(range(32768))), (0, list(range(32767, 0, -1))))
+    same("cheaper and cheaper", sheet([0] * 32768, list(range(32768, 0, -1))), rest())
+    # refusals, in their order: what was lent stays
+    left = [77] * 32767
+    for hop in (0, 1, 32767):
+        name = "h%d" % hop
+        same("octets, word %d" % hop, sheet(words(**{name: MOST + 1}), words(h5=MOST + 1)), (30, left))
+        same("octets, word %d just not" % hop, sheet(words(**{name: MOST}), words())[0], 0)
+        same("cents, word %d" % hop, sheet(words(), words(**{name: MOST + 1}))[0], 31 if hop else 0)
+        same("cents, word %d just not" % hop, sheet(words(), words(**{name: MOST}))[0], 0)
+    for size in (0, 1, 32767, 32769):
+        same("%d words of octets" % size, sheet([MOST + 1] * size, words()), (1, left))
+        same("%d words of cents" % size, sheet(words(h0=MOST + 1), [MOST + 1] * size), (1, left))
+    for size in (0, 1, 32766, 32768):
+        hops = [77] * size
+        same("room for %d" % size, (model.cost_sheet(words(h1=MOST + 1), words(), hops), hops), (1, [77] * size))
+
+
 eight_lookups()
 small_program()
 edges()
 easy_errors()
 disagreeing()
 records()
+bookings()
+lines()
+sheets()
 print("test_model: %d figures, %d wrong" % (tests, failures))
 raise SystemExit(1 if failures else 0)
