@@ -3,14 +3,14 @@
 use mathlib.Core.Path.{_≡_, refl, sym, ap, ap₂, _∙_}
 use mathlib.Core.Bool.{Bool, true, false, cond, _&&_}
 use mathlib.Core.List.{List}
-use Prim.Native.Nat.{ℕ, _+_, _%_, _<_}
+use Prim.Native.Nat.{ℕ, _+_, _%_}
 use native.Mathlib.Omega.{arith}
 use lib.Dec.{eqb}
 use lib.ListN.{length, getD}
 use Rattle.ground.proofs.Tests.{Decides, holds, fails, eqb?, iff?, same-test, cond-on}
 use Rattle.prefix.specs.declared.Prefix.{Prefix}
 use Rattle.prefix.specs.Prefixes.{Contains}
-use Rattle.prefix.specs.Routes.{Route, best, IsBest, none, found, IsLongest, AllRoutes, Ascending}
+use Rattle.prefix.specs.Routes.{Route, best, IsBest, none, found, AllRoutes, Ascending}
 use Rattle.prefix.proofs.Prefixes.{contains?}
 use Rattle.prefix.proofs.Best.{best-is, longest-unique}
 use Rattle.cells.specs.declared.look.Answer.{Answer}
@@ -21,11 +21,11 @@ use Rattle.history.specs.History.{History, memory, live, IsAnswer, routed, no-r
 use Rattle.history.proofs.Histories.{inv-history}
 use Rattle.history.proofs.Demand2.{demand-2}
 use Rattle.octets.specs.Words.{wordCount}
-use Rattle.octets.specs.Booking.{Outcome, refusalOf, addTo, enter, book}
-use Rattle.octets.specs.Bookings.{Bookings, Flow, bookFlow, wordsAfter, isAccepted, names, answerTo, octetsFor}
+use Rattle.octets.specs.Booking.{Outcome, refusalOf, enter, book}
+use Rattle.octets.specs.Bookings.{wordsAfter, isAccepted, names, answerTo, octetsFor}
 use Rattle.octets.proofs.Entering.{Told, told-look, names?, Did, took, left, did-book}
 use Rattle.octets.proofs.Balancing.{balances}
-use Rattle.charges.specs.Charges.{Unrouted, IsCharged, to-hop, to-none, Charges, Account, cleared, updated, carried, updates, flowOf, flows, wordsNow, hopOf, chargedTo, octetsTo, Charged}
+use Rattle.charges.specs.Charges.{Unrouted, IsCharged, to-hop, to-none, Charges, Account, cleared, updated, carried, updates, flowOf, flows, hopOf, chargedTo, octetsTo, Charged}
 
 -- ---- the word of an answer
 

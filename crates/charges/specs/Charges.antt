@@ -2,7 +2,7 @@
 use mathlib.Core.Path.{_≡_}
 use mathlib.Core.Bool.{cond, _&&_}
 use mathlib.Core.List.{List, List·Memᴰ as Mem}
-use Prim.Native.Nat.{ℕ, _+_, _≤_, _<_}
+use Prim.Native.Nat.{ℕ, _+_, _<_}
 use lib.Dec.{eqb}
 use lib.ListN.{getD}
 use Rattle.ground.specs.Sums.{sum}
@@ -11,7 +11,7 @@ use Rattle.prefix.specs.Prefixes.{Contains}
 use Rattle.prefix.specs.Routes.{Route, Match, no-route, via, best, IsLongest}
 use Rattle.refusals.specs.Memory.{Lent}
 use Rattle.history.specs.History.{Call, History, start, _then_, memory, live}
-use Rattle.octets.specs.Words.{wordCount, most}
+use Rattle.octets.specs.Words.{wordCount}
 use Rattle.octets.specs.Booking.{Outcome, addTo}
 use Rattle.octets.specs.Bookings.{Flow, Bookings, none, _booking_, wordsAfter, isAccepted, octetsAll}
 

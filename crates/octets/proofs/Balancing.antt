@@ -15,8 +15,8 @@ use Rattle.ground.proofs.Tests.{Decides, holds, fails, eqb?, cond-on, cond-off}
 use Rattle.cells.specs.declared.look.Answer.{Answer}
 use Rattle.cells.proofs.Answers.{small-look}
 use Rattle.octets.specs.Words.{wordCount, most}
-use Rattle.octets.specs.Booking.{Outcome, refusalOf, clearOctets, book}
-use Rattle.octets.specs.Bookings.{Flow, Bookings, none, _booking_, bookFlow, wordsAfter, isAccepted, names, answerTo, octetsFor, octetsAll, Balances}
+use Rattle.octets.specs.Booking.{Outcome, clearOctets}
+use Rattle.octets.specs.Bookings.{Bookings, none, _booking_, bookFlow, wordsAfter, isAccepted, names, answerTo, octetsFor, octetsAll, Balances}
 use Rattle.octets.proofs.Entering.{Told, told-look, names?, Did, took, left, did-book, did-long}
 
 -- ---- one booking
@@ -60,10 +60,12 @@ module _ (r : Answer) (T : Told r) (small : r .hop ≤ 32767) (amount : ℕ) (wo
       getD-set-same words at (getD words at 0 + amount) 0 hop-lent)
   all-gain (left code n) = omega (arith, cond-off amount 0 (eqb? code 0) n)
 
-  each-fits : {o : Outcome} → Did r amount words o → ((h : ℕ) → h < wordCount → getD words h 0 ≤ most) → (h : ℕ) → h < wordCount → getD (o .words) h 0 ≤ most
+  each-fits : {o : Outcome} → Did r amount words o → ((h : ℕ) → h < wordCount → getD words h 0 ≤ most)
+      → (h : ℕ) → h < wordCount → getD (o .words) h 0 ≤ most
   each-fits (took z l) fits h m =
       by-eq h (r .hop)
-      (λ e. omega (arith, ap (λ (k : ℕ). getD (set words (r .hop) (getD words (r .hop) 0 + amount)) k 0) e, getD-set-same words (r .hop) (getD words (r .hop) 0 + amount) 0 hop-lent))
+      (λ e. omega (arith, ap (λ (k : ℕ). getD (set words (r .hop) (getD words (r .hop) 0 + amount)) k 0) e,
+      getD-set-same words (r .hop) (getD words (r .hop) 0 + amount) 0 hop-lent))
       (λ n. omega (arith, getD-set-other words (r .hop) h (getD words (r .hop) 0 + amount) 0 n, fits h m))
   each-fits (left code n) fits h m = fits h m
 
@@ -100,7 +102,8 @@ module _ (w : List ℕ) (lent : length w ≡ wordCount) where
       let long = words-long b in
       let D = did-book (f .first) (f .long) (f .territory) (f .address) (f .amount) words in
       record {
-        each-word = λ h m. each-gains r T small (f .amount) words long D h ∙ ap (λ (k : ℕ). k + gainedBy (bookFlow f words) r (f .amount) h) (B .each-word h m);
+        each-word = λ h m.
+            each-gains r T small (f .amount) words long D h ∙ ap (λ (k : ℕ). k + gainedBy (bookFlow f words) r (f .amount) h) (B .each-word h m);
         all-words = all-gain r T small (f .amount) words long D ∙ ap (λ (k : ℕ). k + gained (bookFlow f words) (f .amount)) (B .all-words);
         no-more = each-fits r T small (f .amount) words long D (B .no-more);
       }

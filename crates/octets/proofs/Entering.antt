@@ -6,7 +6,7 @@ use Prim.Native.Nat.{ℕ, _+_, _/_, _%_, _≤_, _<_}
 use native.Mathlib.Omega.{arith}
 use lib.Dec.{ltb, eqb, leb, lit<}
 use lib.ListN.{length, getD, set, drop, replicate, length-set, drop-of-length-le}
-use Rattle.ground.proofs.Tests.{Decides, holds, fails, leb?, eqb?, and?, iff?, cond-on, cond-off, by-test}
+use Rattle.ground.proofs.Tests.{Decides, holds, fails, leb?, eqb?, and?, iff?, cond-on, cond-off}
 use Rattle.ground.proofs.Cases.{by-eq}
 use Rattle.prefix.specs.declared.Prefix.{Prefix}
 use Rattle.prefix.specs.Prefixes.{contains}
@@ -56,7 +56,8 @@ module _ (first long : List ℕ) (t : Prefix) (a amount : ℕ) (words : List ℕ
   unfolding book
   wrong-words n = sym (cond-off _ _ (eqb? (length words) wordCount) n)
 
-  pub booked : length words ≡ wordCount → {r : Answer} {o : Outcome} → r ≡ lookUp first long t a → o ≡ enter r amount words → o ≡ book first long t a amount words
+  pub booked : length words ≡ wordCount → {r : Answer} {o : Outcome} → r ≡ lookUp first long t a → o ≡ enter r amount words
+      → o ≡ book first long t a amount words
   unfolding book
   booked l e h = h ∙ ap (λ (x : Answer). enter x amount words) e ∙ sym (cond-on _ _ (eqb? (length words) wordCount) l)
 
@@ -101,25 +102,27 @@ pub no-refusal : {C : Type 0} (code : ℕ) → refusalOf code ≡ 0 → (code �
 unfolding refusalOf
 no-refusal code z zero eight = by-eq code 8 eight (λ n. zero (sym (cond-off 0 code (eqb? code 8) n) ∙ z))
 
+-- what `names` tests, at word 0 and at another
+abbrev Named : Answer → ℕ → Type 0
+Named r h = (h ≡ 0 → Decides (h ≡ r .hop) (eqb (r .code) 8)) × ((h ≡ 0 → ⊥) → Decides (h ≡ r .hop) (eqb (r .code) 0 && eqb (r .hop) h))
+
 -- the word that an answer names is that of its hop
 pub names? : (r : Answer) → Told r → refusalOf (r .code) ≡ 0 → (h : ℕ) → Decides (h ≡ r .hop) (names r h)
 names? r T z h =
     no-refusal (r .code) z
-    (λ e. go h (eqb? h 0) (routed e))
-    (λ e. go h (eqb? h 0) (unrouted e))
+    (λ e. go (eqb? h 0) (routed e))
+    (λ e. go (eqb? h 0) (unrouted e))
   where
-    go : (k : ℕ) {t : Bool} → Decides (k ≡ 0) t
-        → ((k ≡ 0 → Decides (k ≡ r .hop) (eqb (r .code) 8)) × ((k ≡ 0 → ⊥) → Decides (k ≡ r .hop) (eqb (r .code) 0 && eqb (r .hop) k)))
-        → Decides (k ≡ r .hop) (cond t (eqb (r .code) 8) (eqb (r .code) 0 && eqb (r .hop) k))
-    go k (holds q) f = f .0 q
-    go k (fails n) f = f .1 n
+    go : {t : Bool} → Decides (h ≡ 0) t → Named r h → Decides (h ≡ r .hop) (cond t (eqb (r .code) 8) (eqb (r .code) 0 && eqb (r .hop) h))
+    go (holds q) f = f .0 q
+    go (fails n) f = f .1 n
 
-    routed : r .code ≡ 0 → (h ≡ 0 → Decides (h ≡ r .hop) (eqb (r .code) 8)) × ((h ≡ 0 → ⊥) → Decides (h ≡ r .hop) (eqb (r .code) 0 && eqb (r .hop) h))
+    routed : r .code ≡ 0 → Named r h
     routed e =
         (λ q. iff? (eqb? (r .code) 8) (λ f. absurd (omega arith)) (λ p. absurd (omega (arith, T .route e))),
         λ n. iff? (and? (eqb? (r .code) 0) (eqb? (r .hop) h)) (λ p. sym (p .1)) (λ p. (e, sym p)))
 
-    unrouted : r .code ≡ 8 → (h ≡ 0 → Decides (h ≡ r .hop) (eqb (r .code) 8)) × ((h ≡ 0 → ⊥) → Decides (h ≡ r .hop) (eqb (r .code) 0 && eqb (r .hop) h))
+    unrouted : r .code ≡ 8 → Named r h
     unrouted e =
         let n0 : r .code ≡ 0 → ⊥ = λ q. omega arith in
         (λ q. iff? (eqb? (r .code) 8) (λ f. q ∙ sym (T .refusal n0)) (λ p. e),

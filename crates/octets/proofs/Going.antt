@@ -35,7 +35,9 @@ tails e = ap (drop 1) e
 pub record Going (one : ℕ → ℕ → List ℕ → Outcome) (xs ns ws : List ℕ) (i : ℕ) (ys vs : List ℕ) : Type 0 where
   pub long : length ys ≡ length xs
   pub left : drop i ys ≡ drop i xs
-  pub makes : record { codes = take i ys ++ each one (drop i xs) (drop i ns) vs .codes; words = each one (drop i xs) (drop i ns) vs .words } ≡ each one xs ns ws
+  pub makes :
+      record { codes = take i ys ++ each one (drop i xs) (drop i ns) vs .codes; words = each one (drop i xs) (drop i ns) vs .words }
+      ≡ each one xs ns ws
 
 module _ {one : ℕ → ℕ → List ℕ → Outcome} {xs ns ws : List ℕ} where
   pub going-none : Going one xs ns ws 0 xs ws
@@ -88,7 +90,8 @@ module _ (first long : List ℕ) (t : Prefix) where
       ap (λ (x : Answer). enter x n words) (unpacked r (packed r) (small-look first long t a) refl)
       ∙ sym (cond-on _ _ (eqb? (length words) wordCount) l)
 
-  pub by-answers : (xs ns words : List ℕ) → length words ≡ wordCount → enterEach (map (answerOf first long t) xs) ns words ≡ bookEach first long t xs ns words
+  pub by-answers : (xs ns words : List ℕ) → length words ≡ wordCount
+      → enterEach (map (answerOf first long t) xs) ns words ≡ bookEach first long t xs ns words
   unfolding each
   by-answers [] ns words l = refl
   by-answers (a ∷ xs) [] words l = refl
@@ -96,12 +99,14 @@ module _ (first long : List ℕ) (t : Prefix) where
       let o = enterNumber (answerOf first long t a) n words in
       let more = did-long (did-enter (record { code = answerOf first long t a / 65536; hop = answerOf first long t a % 65536 }) n words) in
       ap (λ (b : Booked). record { codes = o .code ∷ b .codes; words = b .words }) (by-answers xs ns (o .words) (more ∙ l))
-      ∙ ap (λ (q : Outcome). record { codes = q .code ∷ bookEach first long t xs ns (q .words) .codes; words = bookEach first long t xs ns (q .words) .words }) (one-same a n words l)
+      ∙ ap (λ (q : Outcome). let b = bookEach first long t xs ns (q .words) in record { codes = q .code ∷ b .codes; words = b .words })
+      (one-same a n words l)
 
 -- ---- the call, by what was tested
 
 -- the hop in look up's number is small
-pub hops-small : (first long : List ℕ) (t : Prefix) (xs ys : List ℕ) → ys ≡ map (answerOf first long t) xs → (i : ℕ) → i < length ys → getD ys i 0 % 65536 ≤ 32767
+pub hops-small : (first long : List ℕ) (t : Prefix) (xs ys : List ℕ) → ys ≡ map (answerOf first long t) xs
+    → (i : ℕ) → i < length ys → getD ys i 0 % 65536 ≤ 32767
 hops-small first long t xs ys e i h = subst (λ (l : List ℕ). i < length l → getD l i 0 % 65536 ≤ 32767) (sym e) (go xs i) h
   where
     go : (l : List ℕ) (k : ℕ) → k < length (map (answerOf first long t) l) → getD (map (answerOf first long t) l) k 0 % 65536 ≤ 32767
@@ -109,7 +114,7 @@ hops-small first long t xs ys e i h = subst (λ (l : List ℕ). i < length l →
     go (x ∷ l) zero m = omega (arith, small-look first long t x .hop)
     go (x ∷ l) (suc k) m = go l k (le-of-suc-le-suc m)
 
-module _ (first long : List ℕ) (t : Prefix) (addresses amounts codes words : List ℕ) where
+module _ (first long : List ℕ) (t : Prefix) (addresses codes : List ℕ) where
   -- what look up of all addresses asks
   abbrev Answers : Type 0
   Answers = LentToRead (length first) (length long) t × (length addresses ≡ length codes)
@@ -137,15 +142,17 @@ module _ (first long : List ℕ) (t : Prefix) (addresses amounts codes words : L
       go (holds p) f = absurd (m (ap (λ (y : All). y .code) f))
       go (fails n) f = (n, ap (λ (y : All). y .answers) f)
 
+module _ (first long : List ℕ) (t : Prefix) (addresses amounts codes words : List ℕ) where
   -- what the call asks
   abbrev Asks : Type 0
-  Asks = ((length words ≡ wordCount) × (length amounts ≡ length addresses)) × Answers
+  Asks = ((length words ≡ wordCount) × (length amounts ≡ length addresses)) × Answers first long t addresses codes
 
   asks? : Decides Asks (eqb (length words) wordCount && eqb (length amounts) (length addresses)
       && (lentToRead (length first) (length long) t && eqb (length addresses) (length codes)))
-  asks? = and? (and? (eqb? (length words) wordCount) (eqb? (length amounts) (length addresses))) answers?
+  asks? = and? (and? (eqb? (length words) wordCount) (eqb? (length amounts) (length addresses))) (answers? first long t addresses codes)
 
-  pub refused-whole : (Asks → ⊥) → {cs : List ℕ} → cs ≡ codes → record { code = 1; words = words; codes = cs } ≡ bookAll first long t addresses amounts codes words
+  pub refused-whole : (Asks → ⊥) → {cs : List ℕ} → cs ≡ codes
+      → record { code = 1; words = words; codes = cs } ≡ bookAll first long t addresses amounts codes words
   unfolding bookAll
   refused-whole n e = ap (λ (l : List ℕ). record { code = 1; words = words; codes = l }) e ∙ sym (cond-off _ _ asks? n)
 

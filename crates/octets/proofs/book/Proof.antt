@@ -21,7 +21,8 @@ enter-requires : tie.Need-enter-requires
 enter-requires c κs =
     let s = c .before .before .before .before .before .before .args in
     let said = c .before .look-up .ensures in
-    (omega (arith, c .before .before .if1 .left), omega (arith, ap (λ (r : Answer). r .hop) said, small-look (now (s .first)) (now (s .long)) (s .territory) (s .address) .hop))
+    (omega (arith, c .before .before .if1 .left),
+    omega (arith, ap (λ (r : Answer). r .hop) said, small-look (now (s .first)) (now (s .long)) (s .territory) (s .address) .hop))
 
 same-length : tie.Need-same-length
 same-length c = search needs
@@ -29,7 +30,8 @@ same-length c = search needs
 returns-2 : tie.Need-returns-2
 returns-2 c =
     let s = c .before .before .before .before .before .before .before .before .before .args in
-    booked (now (s .first)) (now (s .long)) (s .territory) (s .address) (s .amount) (now (s .octets)) (omega (arith, c .before .before .before .before .before .if1 .left))
+    booked (now (s .first)) (now (s .long)) (s .territory) (s .address) (s .amount) (now (s .octets))
+    (omega (arith, c .before .before .before .before .before .if1 .left))
     (c .before .before .before .before .look-up .ensures) (c .before .before .enter .ensures)
 
 pub book-spec : {M : Type 1} → statement M
