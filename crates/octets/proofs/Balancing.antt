@@ -2,7 +2,7 @@
 -- all accepted records, and none is above 2 ^ 53. Assumes nothing.
 use mathlib.Core.Path.{_≡_, refl, sym, ap, _∙_}
 use mathlib.Core.Bool.{Bool, cond, _&&_}
-use mathlib.Core.List.{List}
+use mathlib.Core.List.{List, [], _∷_}
 use Prim.Native.Nat.{ℕ, _+_, _≤_, _<_}
 use native.Mathlib.Omega.{arith}
 use lib.Dec.{eqb}
@@ -12,11 +12,13 @@ use Rattle.ground.specs.Sums.{sum}
 use Rattle.ground.proofs.Sums.{sum-none, sum-change}
 use Rattle.ground.proofs.Cases.{by-eq}
 use Rattle.ground.proofs.Tests.{Decides, holds, fails, eqb?, cond-on, cond-off}
+use Rattle.prefix.specs.declared.Prefix.{Prefix}
 use Rattle.cells.specs.declared.look.Answer.{Answer}
 use Rattle.cells.proofs.Answers.{small-look}
 use Rattle.octets.specs.Words.{wordCount, most}
 use Rattle.octets.specs.Booking.{Outcome, clearOctets}
-use Rattle.octets.specs.Bookings.{Bookings, none, _booking_, bookFlow, wordsAfter, isAccepted, names, answerTo, octetsFor, octetsAll, Balances}
+use Rattle.octets.specs.Many.{each, bookEach}
+use Rattle.octets.specs.Bookings.{Bookings, none, _booking_, bookFlow, wordsAfter, isAccepted, names, answerTo, octetsFor, octetsAll, alsoAll, Balances}
 use Rattle.octets.proofs.Entering.{Told, told-look, names?, Did, took, left, did-book, did-long}
 
 -- ---- one booking
@@ -55,17 +57,22 @@ module _ (r : Answer) (T : Told r) (small : r .hop ≤ 32767) (amount : ℕ) (wo
   all-gain (took z l) =
       let at = r .hop in
       let new = set words at (getD words at 0 + amount) in
-      omega (arith,
-      sum-change wordCount (λ h. getD new h 0) (λ h. getD words h 0) at (omega arith) (λ k m n. getD-set-other words at k (getD words at 0 + amount) 0 n),
-      getD-set-same words at (getD words at 0 + amount) 0 hop-lent)
+      omega (
+        arith,
+        sum-change wordCount (λ h. getD new h 0) (λ h. getD words h 0) at (omega arith) (λ k m n. getD-set-other words at k (getD words at 0 + amount) 0 n),
+        getD-set-same words at (getD words at 0 + amount) 0 hop-lent,
+      )
   all-gain (left code n) = omega (arith, cond-off amount 0 (eqb? code 0) n)
 
   each-fits : {o : Outcome} → Did r amount words o → ((h : ℕ) → h < wordCount → getD words h 0 ≤ most)
       → (h : ℕ) → h < wordCount → getD (o .words) h 0 ≤ most
   each-fits (took z l) fits h m =
       by-eq h (r .hop)
-      (λ e. omega (arith, ap (λ (k : ℕ). getD (set words (r .hop) (getD words (r .hop) 0 + amount)) k 0) e,
-      getD-set-same words (r .hop) (getD words (r .hop) 0 + amount) 0 hop-lent))
+      (λ e. omega (
+        arith,
+        ap (λ (k : ℕ). getD (set words (r .hop) (getD words (r .hop) 0 + amount)) k 0) e,
+        getD-set-same words (r .hop) (getD words (r .hop) 0 + amount) 0 hop-lent,
+      ))
       (λ n. omega (arith, getD-set-other words (r .hop) h (getD words (r .hop) 0 + amount) 0 n, fits h m))
   each-fits (left code n) fits h m = fits h m
 
@@ -107,3 +114,12 @@ module _ (w : List ℕ) (lent : length w ≡ wordCount) where
         all-words = all-gain r T small (f .amount) words long D ∙ ap (λ (k : ℕ). k + gained (bookFlow f words) (f .amount)) (B .all-words);
         no-more = each-fits r T small (f .amount) words long D (B .no-more);
       }
+
+-- A call for many is so many bookings of a history: what it leaves of the words is what they leave.
+pub many-booked : (w first long : List ℕ) (t : Prefix) (xs ns : List ℕ) (b : Bookings)
+    → bookEach first long t xs ns (wordsAfter w b) .words ≡ wordsAfter w (alsoAll first long t xs ns b)
+unfolding each alsoAll wordsAfter
+many-booked w first long t [] ns b = refl
+many-booked w first long t (a ∷ xs) [] b = refl
+many-booked w first long t (a ∷ xs) (n ∷ ns) b =
+    many-booked w first long t xs ns (b booking record { first = first; long = long; territory = t; address = a; amount = n })

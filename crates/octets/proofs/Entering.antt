@@ -118,15 +118,17 @@ names? r T z h =
     go (fails n) f = f .1 n
 
     routed : r .code ≡ 0 → Named r h
-    routed e =
-        (λ q. iff? (eqb? (r .code) 8) (λ f. absurd (omega arith)) (λ p. absurd (omega (arith, T .route e))),
-        λ n. iff? (and? (eqb? (r .code) 0) (eqb? (r .hop) h)) (λ p. sym (p .1)) (λ p. (e, sym p)))
+    routed e = (
+      λ q. iff? (eqb? (r .code) 8) (λ f. absurd (omega arith)) (λ p. absurd (omega (arith, T .route e))),
+      λ n. iff? (and? (eqb? (r .code) 0) (eqb? (r .hop) h)) (λ p. sym (p .1)) (λ p. (e, sym p)),
+    )
 
     unrouted : r .code ≡ 8 → Named r h
     unrouted e =
-        let n0 : r .code ≡ 0 → ⊥ = λ q. omega arith in
-        (λ q. iff? (eqb? (r .code) 8) (λ f. q ∙ sym (T .refusal n0)) (λ p. e),
-        λ n. iff? (and? (eqb? (r .code) 0) (eqb? (r .hop) h)) (λ p. absurd (n0 (p .0))) (λ p. absurd (n (p ∙ T .refusal n0))))
+        let n0 : r .code ≡ 0 → ⊥ = λ q. omega arith in (
+          λ q. iff? (eqb? (r .code) 8) (λ f. q ∙ sym (T .refusal n0)) (λ p. e),
+          λ n. iff? (and? (eqb? (r .code) 0) (eqb? (r .hop) h)) (λ p. absurd (n0 (p .0))) (λ p. absurd (n (p ∙ T .refusal n0))),
+        )
 
 -- ---- one booking, by what it does to the words
 

@@ -2,7 +2,7 @@
 -- them, each with any tables, any territory, any address and any amount. Assumes nothing.
 use mathlib.Core.Path.{_≡_}
 use mathlib.Core.Bool.{Bool, cond, _&&_}
-use mathlib.Core.List.{List}
+use mathlib.Core.List.{List, [], _∷_}
 use Prim.Native.Nat.{ℕ, _+_, _≤_, _<_}
 use lib.Dec.{eqb}
 use lib.ListN.{getD}
@@ -26,7 +26,6 @@ pub data Bookings : Type 0 where
   _booking_ : Bookings → Flow → Bookings
 
 infixl 30 _booking_
-
 -- what the call answers and leaves
 abbrev pub bookFlow : Flow → List ℕ → Outcome
 bookFlow f words = book (f .first) (f .long) (f .territory) (f .address) (f .amount) words
@@ -35,6 +34,13 @@ bookFlow f words = book (f .first) (f .long) (f .territory) (f .address) (f .amo
 unfoldable pub wordsAfter : List ℕ → Bookings → List ℕ
 wordsAfter w none = clearOctets w .words
 wordsAfter w (b booking f) = bookFlow f (wordsAfter w b) .words
+
+-- a history with the records of one call for many booked after it
+unfoldable pub alsoAll : List ℕ → List ℕ → Prefix → List ℕ → List ℕ → Bookings → Bookings
+alsoAll first long t (a ∷ xs) (n ∷ ns) b =
+    alsoAll first long t xs ns (b booking record { first = first; long = long; territory = t; address = a; amount = n })
+alsoAll first long t (a ∷ xs) [] b = b
+alsoAll first long t [] ns b = b
 
 -- the flow is accepted after the history
 unfoldable pub isAccepted : List ℕ → Bookings → Flow → Bool

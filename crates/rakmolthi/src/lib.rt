@@ -192,7 +192,15 @@ pub extern "C" fn rk_book_all(
         address: base,
         length: base_length,
     };
-    octets::book_all(first, long_table, octets, territory, addresses, amounts, codes)
+    octets::book_all(
+        first,
+        long_table,
+        octets,
+        territory,
+        addresses,
+        amounts,
+        codes,
+    )
 }
 
 #[no_mangle]

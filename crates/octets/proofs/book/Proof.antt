@@ -20,9 +20,10 @@ look-up-requires c κs = search needs
 enter-requires : tie.Need-enter-requires
 enter-requires c κs =
     let s = c .before .before .before .before .before .before .args in
-    let said = c .before .look-up .ensures in
-    (omega (arith, c .before .before .if1 .left),
-    omega (arith, ap (λ (r : Answer). r .hop) said, small-look (now (s .first)) (now (s .long)) (s .territory) (s .address) .hop))
+    let said = c .before .look-up .ensures in (
+      omega (arith, c .before .before .if1 .left),
+      omega (arith, ap (λ (r : Answer). r .hop) said, small-look (now (s .first)) (now (s .long)) (s .territory) (s .address) .hop),
+    )
 
 same-length : tie.Need-same-length
 same-length c = search needs

@@ -37,10 +37,13 @@ loop-less c = search needs
 
 loop-again : tie.Need-loop-again Inv-loop μ-loop
 loop-again c =
-    let inv = c .before .loop .inv in
-    (omega arith,
-    (ap (λ (x : List ℕ). set x (c .before .loop .i) 0) (inv .1 .0) ∙ fill-more (c .before .loop .i) 0 _ (omega (arith, inv .1 .1)),
-    length-set (c .before .loop .octets) (c .before .loop .i) 0 ∙ inv .1 .1))
+    let inv = c .before .loop .inv in (
+      omega arith,
+      (
+        ap (λ (x : List ℕ). set x (c .before .loop .i) 0) (inv .1 .0) ∙ fill-more (c .before .loop .i) 0 _ (omega (arith, inv .1 .1)),
+        length-set (c .before .loop .octets) (c .before .loop .i) 0 ∙ inv .1 .1,
+      ),
+    )
 
 same-length : tie.Need-same-length Inv-loop μ-loop
 same-length c = c .before .loop .inv .1 .1

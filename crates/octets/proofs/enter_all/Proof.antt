@@ -54,9 +54,10 @@ loop-less c = search needs
 loop-again : tie.Need-loop-again Inv-loop μ-loop
 loop-again c =
     let said = c .before .before .enter .ensures in
-    let turn = c .before .before .before .before .before .before .before in
-    (enter-long _ _ _ said ∙ turn .loop .inv .0,
-    going-more (turn .loop .inv .1) _ said (omega (arith, turn .loop .inv .1 .long)) (omega (arith, turn .loop .inv .1 .long)))
+    let turn = c .before .before .before .before .before .before .before in (
+      enter-long _ _ _ said ∙ turn .loop .inv .0,
+      going-more (turn .loop .inv .1) _ said (omega (arith, turn .loop .inv .1 .long)) (omega (arith, turn .loop .inv .1 .long)),
+    )
 
 same-length : tie.Need-same-length Inv-loop μ-loop
 same-length c = omega (arith, c .before .loop .inv .0, c .before .before .before .before .before .pre .0 .0)
