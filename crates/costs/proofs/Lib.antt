@@ -7,6 +7,7 @@ pub mod Saying
 mod Orders
 mod Heaps
 mod Counts
+mod Runs
 mod Costs
 mod Sorted
 mod Unique
