@@ -1,73 +1,76 @@
+-- `cost_sheet` meets its contract: what the tests let pass is sound, and is sorted. Assumes nothing.
+use native.Mathlib.Omega.{arith}
+use Rattle.ground.proofs.Tests.{if-so, if-not}
+use Rattle.costs.proofs.Refusing.{Tested, within?, refused-1, refused-30, refused-31, filled-0, tested-sound}
+use Rattle.costs.proofs.Sorted.{ranked-run}
 use borrow.Author.Needs.{needs}
 use Rattle.costs.proofs.sheet.cost_sheet.Statement.{statement}
 use Rattle.costs.proofs.sheet.cost_sheet.Tie as tie
-use Rattle.costs.proofs.sheet.cost_sheet.Reads as reads
-use Rattle.costs.proofs.sheet.cost_sheet.Lts as lts
-use Rattle.costs.proofs.heap.build.Reads as build-reads
-use Rattle.costs.proofs.heap.drain.Reads as drain-reads
-use Rattle.costs.proofs.heap.number.Reads as number-reads
-use Rattle.costs.proofs.quick.sort.Reads as sort-reads
-use Rattle.costs.proofs.sheet.within.Reads as within-reads
 
--- src/sheet.rt:28:9
 returns : tie.Need-returns
-returns c = ?
+returns c = let s = c .before .before .before .before .args in refused-1 (s .octets .now) (s .cents .now) (s .hops .now) (λ z. omega (arith, z .0 .0))
 
--- src/sheet.rt:31:9
 returns-2 : tie.Need-returns-2
-returns-2 c = ?
+returns-2 c = let s = c .before .before .before .before .before .args in refused-1 (s .octets .now) (s .cents .now) (s .hops .now) (λ z. omega (arith, z .0 .1))
 
--- src/sheet.rt:34:9
 returns-3 : tie.Need-returns-3
-returns-3 c = ?
+returns-3 c = let s = c .before .before .before .before .before .before .args in refused-1 (s .octets .now) (s .cents .now) (s .hops .now) (λ z. omega (arith, z .1))
 
--- src/sheet.rt:36:9
 within-requires : tie.Need-within-requires
 within-requires c κs = search needs
 
--- src/sheet.rt:37:9
 returns-4 : tie.Need-returns-4
-returns-4 c = ?
+returns-4 c =
+    let s = c .before .before .before .before .before .before .before .before .args in
+    refused-30 (s .octets .now) (s .cents .now) (s .hops .now) ((omega arith, omega arith), omega arith)
+    (if-not (within? 0 (s .octets .now)) (c .before .within .ensures) (c .if4 .taken))
 
--- src/sheet.rt:40:9
 within-requires-2 : tie.Need-within-requires-2
 within-requires-2 c κs = search needs
 
--- src/sheet.rt:41:9
 returns-5 : tie.Need-returns-5
-returns-5 c = ?
+returns-5 c =
+    let s = c .before .before .before .before .before .before .before .before .before .before .args in
+    refused-31 (s .octets .now) (s .cents .now) (s .hops .now) ((omega arith, omega arith), omega arith)
+    (if-so (within? 0 (s .octets .now)) (c .before .before .before .within .ensures) (c .before .before .if4 .left))
+    (if-not (within? 1 (s .cents .now)) (c .before .within2 .ensures) (c .if5 .taken))
 
--- src/sheet.rt:43:5
+-- past all tests
+tested : (k : tie.Else5) → let s = k .before .before .before .before .before .before .before .before .before .before .args in Tested (s .octets .now) (s .cents .now) (s .hops .now)
+tested k =
+    let s = k .before .before .before .before .before .before .before .before .before .before .args in
+    record {
+      sizes = ((omega arith, omega arith), omega arith);
+      octets = if-so (within? 0 (s .octets .now)) (k .before .before .before .within .ensures) (k .before .before .if4 .left);
+      cents = if-so (within? 1 (s .cents .now)) (k .before .within2 .ensures) (k .if5 .left);
+    }
+
 number-requires : tie.Need-number-requires
 number-requires c κs = search needs
 
--- src/sheet.rt:44:9
 sort-requires : tie.Need-sort-requires
-sort-requires c κs = ?
+sort-requires c κs = (tested-sound (tested (c .before .before .before .before .before)), (c .before .before .before .number .ensures, omega arith))
 
--- src/sheet.rt:46:9
 same-length : tie.Need-same-length
 same-length c = search needs
 
--- src/sheet.rt:46:9
 returns-6 : tie.Need-returns-6
-returns-6 c = ?
+returns-6 c =
+    let t = tested (c .before .before .before .before .before .before .before .before .before) in
+    let e = c .before .before .before .sort .ensures in
+    filled-0 t (ranked-run (tested-sound t) (e .0 .0) (e .1 (c .if6 .taken)))
 
--- src/sheet.rt:48:5
 build-requires : tie.Need-build-requires
-build-requires c κs = ?
+build-requires c κs = (tested-sound (tested (c .before .before .before .before .before .before .before .before .before .before)), c .before .before .before .before .sort .ensures .0 .0)
 
--- src/sheet.rt:49:5
 drain-requires : tie.Need-drain-requires
-drain-requires c κs = ?
+drain-requires c κs = (tested-sound (tested (c .before .before .before .before .before .before .before .before .before .before .before .before .before .before)), c .before .before .before .build .ensures)
 
--- src/sheet.rt:24:1
 same-length-2 : tie.Need-same-length-2
 same-length-2 c = search needs
 
--- src/sheet.rt:24:1
 returns-7 : tie.Need-returns-7
-returns-7 c = ?
+returns-7 c = filled-0 (tested (c .before .before .before .before .before .before .before .before .before .before .before .before .before .before .before .before .before)) (c .before .before .drain .ensures)
 
 pub cost-sheet-spec : {M : Type 1} → statement M
 cost-sheet-spec =
