@@ -41,6 +41,7 @@ pub fn cost_sheet(octets: &[u64], cents: &[u64], hops: &mut [u32]) -> u32
         return 31;
     }
     heap::number(hops);
+    // Quick sort is the faster. Where it would go too deep, heap sort does it all, so that no words make the call slow.
     let sorted = quick::sort(octets, cents, hops, 0, 32767, 48);
     if sorted {
         return 0;
