@@ -261,11 +261,11 @@ module _ (os cs : List ℕ) (l : Sound os cs) where
       go (inr g) = (g .1 .0, λ f. g .1 .1)
 
 -- the order of two hops, by the words that the code reads
-pub by-words : {r : Bool} (os cs : List ℕ) (a b : ℕ) → 0 < a → 0 < b
-    → r ≡ broken (ahead (getD os a 0) (getD cs a 0) (getD os b 0) (getD cs b 0)) (ahead (getD os b 0) (getD cs b 0) (getD os a 0) (getD cs a 0)) a b
+pub by-words : {r : Bool} {ob cb : ℕ} (os cs : List ℕ) (a b : ℕ) → 0 < a → 0 < b → ob ≡ getD os b 0 → cb ≡ getD cs b 0
+    → r ≡ broken (ahead (getD os a 0) (getD cs a 0) ob cb) (ahead ob cb (getD os a 0) (getD cs a 0)) a b
     → r ≡ before os cs a b
 unfolding before
-by-words os cs a b p q h = rw (word-is os a p, word-is cs a p, word-is os b q, word-is cs b q) h
+by-words os cs a b p q e f h = rw (word-is os a p, word-is cs a p, word-is os b q ∙ sym e, word-is cs b q ∙ sym f) h
 
 -- ---- the answers of `line_before`
 

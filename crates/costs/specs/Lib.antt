@@ -4,8 +4,10 @@
 --   `Order`  a strict total order: `before` is one (`before-order`, proofs/Costs.antt)
 --   `Sheet`  each hop once, each before the next; one list only is so (`one-ranking`, proofs/Unique.antt)
 --   `Heap`   a heap in a list, for any order, and what a step of heap sort leaves
+--   `Quick`  a run of a list, for any order, and what a step of quick sort leaves
 pub mod Lines
 pub mod Ranks
 pub mod Order
 pub mod Sheet
 pub mod Heap
+pub mod Quick

@@ -2,4 +2,5 @@
 mod heap;
 pub mod line;
 mod order;
+mod quick;
 pub mod sheet;

@@ -2,6 +2,7 @@
 ghost use mathlib.Core.Path.{_≡_};
 ghost use Prim.Native.Nat.{_<_, _≤_};
 ghost use lib.Dec.{ltb};
+ghost use lib.ListN.{getD};
 ghost use lib.Ieee.{lt};
 ghost use Rattle.octets.specs.Words.{most};
 ghost use Rattle.costs.specs.Ranks.{Sound, classOf, broken, ahead, before};
@@ -66,13 +67,30 @@ fn line_before(octets_a: u64, cents_a: u64, octets_b: u64, cents_b: u64, a: u32,
     by_cents(cents_a, cents_b, a, b)
 }
 
+// Whether hop a ranks before hop b, whose two words are at hand.
+pub fn ranks_before_words(
+    octets: &[u64],
+    cents: &[u64],
+    a: u32,
+    b: u32,
+    octets_b: u64,
+    cents_b: u64,
+) -> bool
+    requires { ⌜ Sound (now octets) (now cents) ⌝ }
+    requires { ⌜ ((0 < a) × (a < 32768)) × ((0 < b) × (b < 32768)) ⌝ }
+    requires { ⌜ («octets_b» ≡ getD (now octets) b 0) × («cents_b» ≡ getD (now cents) b 0) ⌝ }
+    ensures { λ r. ⌜ r ≡ before (now (octets .entry)) (now (cents .entry)) a b ⌝ }
+{
+    let i = a as usize;
+    line_before(octets[i], cents[i], octets_b, cents_b, a, b)
+}
+
 // Whether hop a ranks before hop b.
 pub fn ranks_before(octets: &[u64], cents: &[u64], a: u32, b: u32) -> bool
     requires { ⌜ Sound (now octets) (now cents) ⌝ }
     requires { ⌜ ((0 < a) × (a < 32768)) × ((0 < b) × (b < 32768)) ⌝ }
     ensures { λ r. ⌜ r ≡ before (now (octets .entry)) (now (cents .entry)) a b ⌝ }
 {
-    let i = a as usize;
     let j = b as usize;
-    line_before(octets[i], cents[i], octets[j], cents[j], a, b)
+    ranks_before_words(octets, cents, a, b, octets[j], cents[j])
 }

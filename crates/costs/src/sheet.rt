@@ -3,6 +3,7 @@ ghost use mathlib.Core.Path.{_≡_};
 ghost use lib.ListN.{drop};
 ghost use Rattle.costs.specs.Sheet.{within, SheetIs};
 use crate::heap;
+use crate::quick;
 use octets::words::Words;
 
 // Whether no word from an index on has passed 2^53.
@@ -40,6 +41,11 @@ pub fn cost_sheet(octets: &[u64], cents: &[u64], hops: &mut [u32]) -> u32
         return 31;
     }
     heap::number(hops);
+    // Quick sort is the faster. Where it would go too deep, heap sort does it all, so that no words make the call slow.
+    let sorted = quick::sort(octets, cents, hops, 0, 32767, 48);
+    if sorted {
+        return 0;
+    }
     heap::build(octets, cents, hops);
     heap::drain(octets, cents, hops);
     0

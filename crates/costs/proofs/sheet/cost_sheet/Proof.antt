@@ -2,6 +2,7 @@
 use native.Mathlib.Omega.{arith}
 use Rattle.ground.proofs.Tests.{if-so, if-not}
 use Rattle.costs.proofs.Refusing.{Tested, within?, refused-1, refused-30, refused-31, filled-0, tested-sound}
+use Rattle.costs.proofs.Sorted.{ranked-run}
 use borrow.Author.Needs.{needs}
 use Rattle.costs.proofs.sheet.cost_sheet.Statement.{statement}
 use Rattle.costs.proofs.sheet.cost_sheet.Tie as tie
@@ -47,17 +48,29 @@ tested k =
 number-requires : tie.Need-number-requires
 number-requires c κs = search needs
 
-build-requires : tie.Need-build-requires
-build-requires c κs = (tested-sound (tested (c .before .before .before .before .before)), c .before .before .before .number .ensures)
-
-drain-requires : tie.Need-drain-requires
-drain-requires c κs = (tested-sound (tested (c .before .before .before .before .before .before .before .before .before)), c .before .before .before .build .ensures)
+sort-requires : tie.Need-sort-requires
+sort-requires c κs = (tested-sound (tested (c .before .before .before .before .before)), (c .before .before .before .number .ensures, omega arith))
 
 same-length : tie.Need-same-length
 same-length c = search needs
 
 returns-6 : tie.Need-returns-6
-returns-6 c = filled-0 (tested (c .before .before .before .before .before .before .before .before .before .before .before .before)) (c .before .before .drain .ensures)
+returns-6 c =
+    let t = tested (c .before .before .before .before .before .before .before .before .before) in
+    let e = c .before .before .before .sort .ensures in
+    filled-0 t (ranked-run (tested-sound t) (e .0 .0) (e .1 (c .if6 .taken)))
+
+build-requires : tie.Need-build-requires
+build-requires c κs = (tested-sound (tested (c .before .before .before .before .before .before .before .before .before .before)), c .before .before .before .before .sort .ensures .0 .0)
+
+drain-requires : tie.Need-drain-requires
+drain-requires c κs = (tested-sound (tested (c .before .before .before .before .before .before .before .before .before .before .before .before .before .before)), c .before .before .before .build .ensures)
+
+same-length-2 : tie.Need-same-length-2
+same-length-2 c = search needs
+
+returns-7 : tie.Need-returns-7
+returns-7 c = filled-0 (tested (c .before .before .before .before .before .before .before .before .before .before .before .before .before .before .before .before .before)) (c .before .before .drain .ensures)
 
 pub cost-sheet-spec : {M : Type 1} → statement M
 cost-sheet-spec =
@@ -71,7 +84,10 @@ cost-sheet-spec =
     within-requires-2
     returns-5
     number-requires
+    sort-requires
+    same-length
+    returns-6
     build-requires
     drain-requires
-    same-length
-    returns-6)
+    same-length-2
+    returns-7)
