@@ -341,18 +341,21 @@ static void draw_lines(int kind, uint64_t *octets, uint64_t *cents) {
         if (kind == 2) octets[h] = 1 + rnd() % 8, cents[h] = rnd() % 8;
         if (kind == 3) octets[h] = 1000, cents[h] = RK_WORDS - h;
         if (kind == 4) octets[h] = 1000, cents[h] = h;
+        if (kind == 5) octets[h] = 1000, cents[h] = 2 * RK_WORDS - h % 128 * 256 - h / 128;
+        if (kind == 6 && h % 655 != 1) octets[h] = cents[h] = 0;
     }
     cents[0] = UINT64_MAX; /* not read */
 }
 
 static void time_sheets(void) {
     static const char *const kinds[] = {"rk_cost_sheet, random lines", "rk_cost_sheet, a third without octets, a third without cents",
-                                        "rk_cost_sheet, many equal rates", "rk_cost_sheet, in order", "rk_cost_sheet, in opposite order"};
+                                        "rk_cost_sheet, many equal rates", "rk_cost_sheet, in order", "rk_cost_sheet, in opposite order",
+                                        "rk_cost_sheet, falling 128 at a time", "rk_cost_sheet, 51 live lines"};
     enum { TURNS = 4 };
     static uint64_t octets[RK_WORDS], cents[RK_WORDS];
     static uint32_t ours[RK_HOPS], theirs[RK_HOPS];
     static double t[3][ROUNDS];
-    for (int kind = 0; kind < 5; kind++) {
+    for (int kind = 0; kind < 7; kind++) {
         for (int r = -1; r < ROUNDS; r++) {
             double sum[3] = {0};
             for (int i = 0; i < TURNS; i++) {
@@ -372,7 +375,7 @@ static void time_sheets(void) {
             if (r >= 0)
                 for (int k = 0; k < 3; k++) t[k][r] = sum[k] / TURNS;
         }
-        row(kinds[kind], RK_HOPS, "qsort, same comparison", t[0], t[1], kind == 0 ? 3 : 0);
+        row(kinds[kind], RK_HOPS, "qsort, same comparison", t[0], t[1], kind == 6 ? 0 : 3);
         if (kind == 0) row(kinds[kind], RK_HOPS, "qsort of lines divided before", t[0], t[2], 0);
     }
 }
