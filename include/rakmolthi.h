@@ -158,7 +158,8 @@ uint32_t rk_book_all(const uint32_t *first, size_t first_cells, const uint32_t *
 
 /*
  * The line of a hop: its cents divided by its octets, as the double nearest to that fraction, or "no traffic" for 0 octets. A rate is never
- * infinite and never not-a-number, at most 2^53, and 0 only for 0 cents. Refusals 1, 2, 30, 31; 30 and 31 by the words of this hop alone.
+ * infinite and never not-a-number, at most 2^53, and 0 only for 0 cents. (The processor is to round to the nearest, as it does unless
+ * fesetround was called.) Refusals 1, 2, 30, 31; 30 and 31 by the words of this hop alone.
  */
 rk_line rk_cost_line(const uint64_t *octets, size_t octet_words, const uint64_t *cents, size_t cent_words, uint32_t hop);
 
