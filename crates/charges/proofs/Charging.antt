@@ -2,7 +2,7 @@
 -- that contains the address, and to word 0 exactly if none does; so over every account each word holds what was charged to it. Assumes nothing.
 use mathlib.Core.Path.{_≡_, refl, sym, ap, ap₂, _∙_}
 use mathlib.Core.Bool.{Bool, true, false, cond, _&&_}
-use mathlib.Core.List.{List}
+use mathlib.Core.List.{List, [], _∷_}
 use Prim.Native.Nat.{ℕ, _+_, _%_}
 use native.Mathlib.Omega.{arith}
 use lib.Dec.{eqb}
@@ -22,10 +22,11 @@ use Rattle.history.proofs.Histories.{inv-history}
 use Rattle.history.proofs.Demand2.{demand-2}
 use Rattle.octets.specs.Words.{wordCount}
 use Rattle.octets.specs.Booking.{Outcome, refusalOf, enter, book}
-use Rattle.octets.specs.Bookings.{wordsAfter, isAccepted, names, answerTo, octetsFor}
-use Rattle.octets.proofs.Entering.{Told, told-look, names?, Did, took, left, did-book}
-use Rattle.octets.proofs.Balancing.{balances}
-use Rattle.charges.specs.Charges.{Unrouted, IsCharged, to-hop, to-none, Charges, Account, cleared, updated, carried, updates, flowOf, flows, hopOf, chargedTo, octetsTo, Charged}
+use Rattle.octets.specs.Many.{bookEach}
+use Rattle.octets.specs.Bookings.{wordsAfter, isAccepted, names, answerTo, octetsFor, alsoAll}
+use Rattle.octets.proofs.Entering.{Told, told-look, names?, Did, took, left, did-book, not-gained}
+use Rattle.octets.proofs.Balancing.{balances, many-booked}
+use Rattle.charges.specs.Charges.{Unrouted, IsCharged, to-hop, to-none, Charges, Account, cleared, updated, carried, updates, flowOf, flows, carriedAll, wordsNow, wordBy, chargedTo, octetsTo, Charged}
 
 -- ---- the word of an answer
 
@@ -56,8 +57,8 @@ pub charged-to : (rs : List Route) (a : ℕ) → IsCharged rs a (chargedTo rs a)
 charged-to rs a = go (best-is rs a)
   where
     go : IsBest rs a (best rs a) → IsCharged rs a (chargedTo rs a)
-    go (none e n) = to-none n (ap hopOf e)
-    go (found r e l) = to-hop r l (ap hopOf e)
+    go (none e n) = to-none n (ap wordBy e)
+    go (found r e l) = to-hop r l (ap wordBy e)
 
 -- ---- one flow
 
@@ -119,11 +120,7 @@ module _ (t : Prefix) (m : Lent) (lent : IsLent m t) (w : List ℕ) (long : leng
           → cond (eqb (o .code) 0 && names (lookUp (memory t m (updates s) .first) (memory t m (updates s) .long) t a) k) amount 0
           ≡ cond (eqb (o .code) 0 && eqb (chargedTo (live t m (updates s)) a) k) amount 0
       go (took z l) = ap (λ (x : Bool). cond x amount 0) (names-charged t m lent (updates s) a z k)
-      go (left code n) = none-of (names (lookUp (memory t m (updates s) .first) (memory t m (updates s) .long) t a) k) _ (eqb? code 0)
-        where
-          none-of : (y z : Bool) {x : Bool} → Decides (code ≡ 0) x → cond (x && y) amount 0 ≡ cond (x && z) amount 0
-          none-of y z (holds e) = absurd (n e)
-          none-of y z (fails d) = refl
+      go (left code n) = not-gained amount code n _ ∙ sym (not-gained amount code n _)
 
   named-is-charged : (s : Account) (k : ℕ) → octetsFor w (flows t m s) k ≡ octetsTo t m w s k
   unfolding flows octetsFor octetsTo
@@ -136,3 +133,16 @@ module _ (t : Prefix) (m : Lent) (lent : IsLent m t) (w : List ℕ) (long : leng
   charged s =
       let B = balances w long (flows t m s) in
       record { each-hop = λ h l. B .each-word h l ∙ named-is-charged s h; all-hops = B .all-words }
+
+-- A call for many is so many flows of an account: what it leaves of the words is what they leave.
+pub many-carried : (t : Prefix) (m : Lent) (w : List ℕ) (xs ns : List ℕ) (s : Account)
+    → bookEach (memory t m (updates s) .first) (memory t m (updates s) .long) t xs ns (wordsNow t m w s) .words ≡ wordsNow t m w (carriedAll s xs ns)
+unfolding updates flows carriedAll alsoAll
+many-carried t m w xs ns s =
+    many-booked w (memory t m (updates s) .first) (memory t m (updates s) .long) t xs ns (flows t m s) ∙ ap (wordsAfter w) (same xs ns s)
+  where
+    same : (ys ks : List ℕ) (r : Account)
+        → alsoAll (memory t m (updates r) .first) (memory t m (updates r) .long) t ys ks (flows t m r) ≡ flows t m (carriedAll r ys ks)
+    same [] ks r = refl
+    same (a ∷ ys) [] r = refl
+    same (a ∷ ys) (k ∷ ks) r = same ys ks (carried r a k)

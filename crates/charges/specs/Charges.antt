@@ -1,7 +1,7 @@
 -- What a site's octets are charged to: its tables take updates and its flows are booked with these tables, in any order. Assumes nothing.
 use mathlib.Core.Path.{_≡_}
 use mathlib.Core.Bool.{cond, _&&_}
-use mathlib.Core.List.{List, List·Memᴰ as Mem}
+use mathlib.Core.List.{List, [], _∷_, List·Memᴰ as Mem}
 use Prim.Native.Nat.{ℕ, _+_, _<_}
 use lib.Dec.{eqb}
 use lib.ListN.{getD}
@@ -67,17 +67,23 @@ flows t m cleared = none
 flows t m (updated s c) = flows t m s
 flows t m (carried s a amount) = flows t m s booking flowOf t m s a amount
 
+-- the flows of one call for many, one after the other
+unfoldable pub carriedAll : Account → List ℕ → List ℕ → Account
+carriedAll s (a ∷ xs) (n ∷ ns) = carriedAll (carried s a n) xs ns
+carriedAll s (a ∷ xs) [] = s
+carriedAll s [] ns = s
+
 -- the words of octets now
 abbrev pub wordsNow : Prefix → Lent → List ℕ → Account → List ℕ
 wordsNow t m w s = wordsAfter w (flows t m s)
 
 -- the word that an address is charged to, as a function: that of the longest match
-abbrev pub hopOf : Match → ℕ
-hopOf no-route = 0
-hopOf (via hop length) = hop
+abbrev pub wordBy : Match → ℕ
+wordBy no-route = 0
+wordBy (via hop length) = hop
 
 abbrev pub chargedTo : List Route → ℕ → ℕ
-chargedTo rs a = hopOf (best rs a)
+chargedTo rs a = wordBy (best rs a)
 
 -- the octets of the accepted flows that were charged to h, by what was live when each came
 unfoldable pub octetsTo : Prefix → Lent → List ℕ → Account → ℕ → ℕ

@@ -12,7 +12,7 @@ use lib.Ieee.{Float, lt}
 use lib.Ieee.Positive.{num, den, den-pos, through}
 use borrow.Author.Tests.{lt-ltb, le-ltb, ltb-true, ltb-false, eq-eqb, ne-eqb}
 use Rattle.costs.specs.Lines.{rateOf}
-use Rattle.costs.specs.Ranks.{Sound, classOf, dearer, ahead, broken, wordOf, before}
+use Rattle.costs.specs.Ranks.{Sound, classOf, dearer, ahead, tieBroken, wordOf, before}
 use Rattle.costs.specs.Order.{Order}
 use Rattle.ground.proofs.Cases.{by-lt, by-eq, by-cmp}
 use Rattle.ground.proofs.Tests.{Decides, holds, fails, ltb?, says, passes, stops, iff?}
@@ -153,26 +153,26 @@ module _ (o c o′ c′ : ℕ) (lo : o ≤ 2 ^ 53) (lc : c ≤ 2 ^ 53) (lo′ : 
 -- ---- ties to the lower number
 
 module _ (a b : ℕ) where
-  pub broken-first : (s t : Bool) → s ≡ true → broken s t a b ≡ true
-  unfolding broken
+  pub broken-first : (s t : Bool) → s ≡ true → tieBroken s t a b ≡ true
+  unfolding tieBroken
   broken-first s t e = ap (λ (u : Bool). cond u true (cond t false (ltb a b))) e
 
-  pub broken-second : (s t : Bool) → s ≡ false → t ≡ true → broken s t a b ≡ false
-  unfolding broken
+  pub broken-second : (s t : Bool) → s ≡ false → t ≡ true → tieBroken s t a b ≡ false
+  unfolding tieBroken
   broken-second s t e f = ap₂ (λ (u v : Bool). cond u true (cond v false (ltb a b))) e f
 
-  pub broken-third : (s t : Bool) → s ≡ false → t ≡ false → broken s t a b ≡ ltb a b
-  unfolding broken
+  pub broken-third : (s t : Bool) → s ≡ false → t ≡ false → tieBroken s t a b ≡ ltb a b
+  unfolding tieBroken
   broken-third s t e f = ap₂ (λ (u v : Bool). cond u true (cond v false (ltb a b))) e f
 
-  if-broken : (s t : Bool) → broken s t a b ≡ true → (s ≡ true) ⊎ ((s ≡ false) × ((t ≡ false) × (a < b)))
-  unfolding broken
+  if-broken : (s t : Bool) → tieBroken s t a b ≡ true → (s ≡ true) ⊎ ((s ≡ false) × ((t ≡ false) × (a < b)))
+  unfolding tieBroken
   if-broken true t e = inl refl
   if-broken false true e = absurd (false≢true e)
   if-broken false false e = inr (refl, (refl, ltb-true a b e))
 
-  not-broken : (s t : Bool) → broken s t a b ≡ false → (s ≡ false) × ((t ≡ true) ⊎ (b ≤ a))
-  unfolding broken
+  not-broken : (s t : Bool) → tieBroken s t a b ≡ false → (s ≡ false) × ((t ≡ true) ⊎ (b ≤ a))
+  unfolding tieBroken
   not-broken true t e = absurd (true≢false e)
   not-broken false true e = (refl, inl refl)
   not-broken false false e = (refl, inr (ltb-false a b e))
@@ -182,24 +182,24 @@ module _ (f : ℕ → ℕ → Bool) (once-only : (a b : ℕ) → f a b ≡ true 
   clash : {t : Bool} → t ≡ true → t ≡ false → ⊥
   clash e g = true≢false (sym e ∙ g)
 
-  to-itself : (a : ℕ) → broken (f a a) (f a a) a a ≡ false
+  to-itself : (a : ℕ) → tieBroken (f a a) (f a a) a a ≡ false
   to-itself a = go (f a a) refl
     where
-      go : (t : Bool) → f a a ≡ t → broken (f a a) (f a a) a a ≡ false
+      go : (t : Bool) → f a a ≡ t → tieBroken (f a a) (f a a) a a ≡ false
       go true e = absurd (once-only a a e e)
       go false e = broken-third a a (f a a) (f a a) e e ∙ le-ltb a a (omega arith)
 
   -- a and b are level, and b and c are
-  level-on : (a b c : ℕ) → f a b ≡ false → f b a ≡ false → f b c ≡ false → f c b ≡ false → a < c → broken (f a c) (f c a) a c ≡ true
+  level-on : (a b c : ℕ) → f a b ≡ false → f b a ≡ false → f b c ≡ false → f c b ≡ false → a < c → tieBroken (f a c) (f c a) a c ≡ true
   level-on a b c p q r s l = go (f a c) refl (f c a) refl
     where
-      go : (t : Bool) → f a c ≡ t → (u : Bool) → f c a ≡ u → broken (f a c) (f c a) a c ≡ true
+      go : (t : Bool) → f a c ≡ t → (u : Bool) → f c a ≡ u → tieBroken (f a c) (f c a) a c ≡ true
       go true e u g = broken-first a c (f a c) (f c a) e
       go false e true g = elim (between c a b g) [ inl h ↦ absurd (clash h s) | inr h ↦ absurd (clash h q) ]
       go false e false g = broken-third a c (f a c) (f c a) e g ∙ lt-ltb a c l
 
   step : (a b c : ℕ) → (f a b ≡ true) ⊎ ((f a b ≡ false) × ((f b a ≡ false) × (a < b))) → (f b c ≡ true) ⊎ ((f b c ≡ false) × ((f c b ≡ false) × (b < c)))
-      → broken (f a c) (f c a) a c ≡ true
+      → tieBroken (f a c) (f c a) a c ≡ true
   step a b c (inl h) (inl k) = elim (between a b c h) [ inl g ↦ broken-first a c (f a c) (f c a) g | inr g ↦ absurd (once-only b c k g) ]
   step a b c (inl h) (inr k) = elim (between a b c h) [ inl g ↦ broken-first a c (f a c) (f c a) g | inr g ↦ absurd (clash g (k .1 .0)) ]
   step a b c (inr h) (inl k) = elim (between b c a k) [ inl g ↦ absurd (clash g (h .1 .0)) | inr g ↦ broken-first a c (f a c) (f c a) g ]
@@ -210,7 +210,7 @@ module _ (f : ℕ → ℕ → Bool) (once-only : (a b : ℕ) → f a b ≡ true 
   level-both a b (p, inr h) (q, inl r) = absurd (clash r p)
   level-both a b (p, inr h) (q, inr r) = omega arith
 
-  broken-order : Order (λ (a b : ℕ). broken (f a b) (f b a) a b)
+  broken-order : Order (λ (a b : ℕ). tieBroken (f a b) (f b a) a b)
   broken-order = record {
     irreflexive = to-itself;
     transitive = λ a b c h k. step a b c (if-broken a b (f a b) (f b a) h) (if-broken b c (f b c) (f c b) k);
@@ -262,7 +262,7 @@ module _ (os cs : List ℕ) (l : Sound os cs) where
 
 -- the order of two hops, by the words that the code reads
 pub by-words : {r : Bool} {ob cb : ℕ} (os cs : List ℕ) (a b : ℕ) → 0 < a → 0 < b → ob ≡ getD os b 0 → cb ≡ getD cs b 0
-    → r ≡ broken (ahead (getD os a 0) (getD cs a 0) ob cb) (ahead ob cb (getD os a 0) (getD cs a 0)) a b
+    → r ≡ tieBroken (ahead (getD os a 0) (getD cs a 0) ob cb) (ahead ob cb (getD os a 0) (getD cs a 0)) a b
     → r ≡ before os cs a b
 unfolding before
 by-words os cs a b p q e f h = rw (word-is os a p, word-is cs a p, word-is os b q ∙ sym e, word-is cs b q ∙ sym f) h
@@ -286,18 +286,18 @@ module _ (o c o′ c′ : ℕ) where
       (λ m. absurd (n (class-rate o c m)))
 
 module _ (o c o′ c′ a b : ℕ) where
-  pub line-lower : classOf o c < classOf o′ c′ → true ≡ broken (ahead o c o′ c′) (ahead o′ c′ o c) a b
+  pub line-lower : classOf o c < classOf o′ c′ → true ≡ tieBroken (ahead o c o′ c′) (ahead o′ c′ o c) a b
   line-lower h = sym (broken-first a b (ahead o c o′ c′) (ahead o′ c′ o c) (ahead-lower o c o′ c′ h))
 
-  pub line-higher : classOf o′ c′ < classOf o c → false ≡ broken (ahead o c o′ c′) (ahead o′ c′ o c) a b
+  pub line-higher : classOf o′ c′ < classOf o c → false ≡ tieBroken (ahead o c o′ c′) (ahead o′ c′ o c) a b
   line-higher h = sym (broken-second a b (ahead o c o′ c′) (ahead o′ c′ o c) (ahead-higher o c o′ c′ h) (ahead-lower o′ c′ o c h))
 
-  pub line-rates : {r : Bool} {x y : Float} → classOf o c ≡ classOf o′ c′ → classOf o c ≡ 1 → x ≡ rateOf o c → y ≡ rateOf o′ c′ → r ≡ broken (lt y x) (lt x y) a b
-      → r ≡ broken (ahead o c o′ c′) (ahead o′ c′ o c) a b
+  pub line-rates : {r : Bool} {x y : Float} → classOf o c ≡ classOf o′ c′ → classOf o c ≡ 1 → x ≡ rateOf o c → y ≡ rateOf o′ c′ → r ≡ tieBroken (lt y x) (lt x y) a b
+      → r ≡ tieBroken (ahead o c o′ c′) (ahead o′ c′ o c) a b
   line-rates e f p q h =
-      h ∙ (ap₂ (λ (u v : Float). broken (lt v u) (lt u v) a b) p q
-      ∙ sym (ap₂ (λ (s t : Bool). broken s t a b) (by-rates o c o′ c′ e f) (by-rates o′ c′ o c (sym e) (sym e ∙ f))))
+      h ∙ (ap₂ (λ (u v : Float). tieBroken (lt v u) (lt u v) a b) p q
+      ∙ sym (ap₂ (λ (s t : Bool). tieBroken s t a b) (by-rates o c o′ c′ e f) (by-rates o′ c′ o c (sym e) (sym e ∙ f))))
 
-  pub line-cents : {r : Bool} → classOf o c ≡ classOf o′ c′ → (classOf o c ≡ 1 → ⊥) → r ≡ broken (ltb c′ c) (ltb c c′) a b
-      → r ≡ broken (ahead o c o′ c′) (ahead o′ c′ o c) a b
-  line-cents e n h = h ∙ sym (ap₂ (λ (s t : Bool). broken s t a b) (by-cents o c o′ c′ e n) (by-cents o′ c′ o c (sym e) (λ f. n (e ∙ f))))
+  pub line-cents : {r : Bool} → classOf o c ≡ classOf o′ c′ → (classOf o c ≡ 1 → ⊥) → r ≡ tieBroken (ltb c′ c) (ltb c c′) a b
+      → r ≡ tieBroken (ahead o c o′ c′) (ahead o′ c′ o c) a b
+  line-cents e n h = h ∙ sym (ap₂ (λ (s t : Bool). tieBroken s t a b) (by-cents o c o′ c′ e n) (by-cents o′ c′ o c (sym e) (λ f. n (e ∙ f))))

@@ -44,15 +44,14 @@ wordsLine octets cents = lineOr (wordsCode octets cents) (lineBy octets cents)
 unfoldable pub lineOf : List ℕ → List ℕ → ℕ → Line
 lineOf octets cents hop = lineOr (lineCode octets cents hop) (lineBy (getD octets hop 0) (getD cents hop 0))
 
--- +0
-abbrev pub nothing : Float
-nothing = fin false 0 (pos 0)
+abbrev pub plusZero : Float
+plusZero = fin false 0 (pos 0)
 
 -- what each case of a line stands for: the paper's number; whether there is traffic; and the rate, which says nothing where there is none
 abbrev pub valuesOf : Line → Values
 valuesOf (Rate x) = record { code = 0; traffic = 1; rate = x }
-valuesOf NoTraffic = record { code = 0; traffic = 0; rate = nothing }
-valuesOf (Refused k) = record { code = k; traffic = 0; rate = nothing }
+valuesOf NoTraffic = record { code = 0; traffic = 0; rate = plusZero }
+valuesOf (Refused k) = record { code = k; traffic = 0; rate = plusZero }
 
 -- what is known of the rate x of a line with these octets and cents
 pub record RateSays (octets cents : ℕ) (x : Float) : Type 0 where
@@ -66,7 +65,7 @@ pub record RateSays (octets cents : ℕ) (x : Float) : Type 0 where
   -- at most 2 ^ 53
   pub most : T (le x (fin false 1 (pos 53)))
   -- +0 where cents is 0, and above 0 everywhere else
-  pub none : cents ≡ 0 → x ≡ nothing
+  pub none : cents ≡ 0 → x ≡ plusZero
   pub some : 0 < cents → T (positive x)
 
 -- what each case of a hop's line says of the two words of that hop

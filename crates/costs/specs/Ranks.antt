@@ -36,8 +36,8 @@ ahead octets cents octets′ cents′ =
     (dearer (classOf octets cents) octets cents octets′ cents′))
 
 -- a before b, where `there` says that a goes ahead of b and `back` that b goes ahead of a: a tie goes to the lower number
-unfoldable pub broken : Bool → Bool → ℕ → ℕ → Bool
-broken there back a b = cond there true (cond back false (ltb a b))
+unfoldable pub tieBroken : Bool → Bool → ℕ → ℕ → Bool
+tieBroken there back a b = cond there true (cond back false (ltb a b))
 
 -- the word of a hop; 0 is no hop, and has none
 unfoldable pub wordOf : List ℕ → ℕ → ℕ
@@ -46,9 +46,9 @@ wordOf words (suc h) = getD words (suc h) 0
 
 -- hop a ranks before hop b
 unfoldable pub before : List ℕ → List ℕ → ℕ → ℕ → Bool
-unfolding ahead broken wordOf
+unfolding ahead tieBroken wordOf
 before octets cents a b =
-    broken
+    tieBroken
     (ahead (wordOf octets a) (wordOf cents a) (wordOf octets b) (wordOf cents b))
     (ahead (wordOf octets b) (wordOf cents b) (wordOf octets a) (wordOf cents a))
     a

@@ -5,7 +5,7 @@ ghost use lib.Dec.{ltb};
 ghost use lib.ListN.{getD};
 ghost use lib.Ieee.{lt};
 ghost use Rattle.octets.specs.Words.{most};
-ghost use Rattle.costs.specs.Ranks.{Sound, classOf, broken, ahead, before};
+ghost use Rattle.costs.specs.Ranks.{Sound, classOf, tieBroken, ahead, before};
 use crate::line::rate;
 
 // 0 for cents without octets, 1 for octets, 2 for neither.
@@ -23,7 +23,7 @@ fn class(octets: u64, cents: u64) -> u32
 
 // The larger rate first, then the lower number.
 fn by_rate(x: f64, y: f64, a: u32, b: u32) -> bool
-    ensures { λ r. ⌜ r ≡ broken (lt y x) (lt x y) a b ⌝ }
+    ensures { λ r. ⌜ r ≡ tieBroken (lt y x) (lt x y) a b ⌝ }
 {
     if y < x {
         return true;
@@ -36,7 +36,7 @@ fn by_rate(x: f64, y: f64, a: u32, b: u32) -> bool
 
 // The larger number of cents first, then the lower number.
 fn by_cents(x: u64, y: u64, a: u32, b: u32) -> bool
-    ensures { λ r. ⌜ r ≡ broken (ltb y x) (ltb x y) a b ⌝ }
+    ensures { λ r. ⌜ r ≡ tieBroken (ltb y x) (ltb x y) a b ⌝ }
 {
     if y < x {
         return true;
@@ -51,7 +51,7 @@ fn by_cents(x: u64, y: u64, a: u32, b: u32) -> bool
 fn line_before(octets_a: u64, cents_a: u64, octets_b: u64, cents_b: u64, a: u32, b: u32) -> bool
     requires { ⌜ («octets_a» ≤ most) × («cents_a» ≤ most) ⌝ }
     requires { ⌜ («octets_b» ≤ most) × («cents_b» ≤ most) ⌝ }
-    ensures { λ r. ⌜ r ≡ broken (ahead «octets_a» «cents_a» «octets_b» «cents_b») (ahead «octets_b» «cents_b» «octets_a» «cents_a») a b ⌝ }
+    ensures { λ r. ⌜ r ≡ tieBroken (ahead «octets_a» «cents_a» «octets_b» «cents_b») (ahead «octets_b» «cents_b» «octets_a» «cents_a») a b ⌝ }
 {
     let class_a = class(octets_a, cents_a);
     let class_b = class(octets_b, cents_b);

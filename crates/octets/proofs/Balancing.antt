@@ -1,7 +1,7 @@
 -- After every history of bookings from cleared words, each word holds the octets that look up named it for, the words sum to the octets of
 -- all accepted records, and none is above 2 ^ 53. Assumes nothing.
 use mathlib.Core.Path.{_≡_, refl, sym, ap, _∙_}
-use mathlib.Core.Bool.{Bool, cond, _&&_}
+use mathlib.Core.Bool.{cond, _&&_}
 use mathlib.Core.List.{List, [], _∷_}
 use Prim.Native.Nat.{ℕ, _+_, _≤_, _<_}
 use native.Mathlib.Omega.{arith}
@@ -11,7 +11,7 @@ use lib.Seq.{getD-set-same, getD-set-other}
 use Rattle.ground.specs.Sums.{sum}
 use Rattle.ground.proofs.Sums.{sum-none, sum-change}
 use Rattle.ground.proofs.Cases.{by-eq}
-use Rattle.ground.proofs.Tests.{Decides, holds, fails, eqb?, cond-on, cond-off}
+use Rattle.ground.proofs.Tests.{eqb?, cond-on, cond-off}
 use Rattle.prefix.specs.declared.Prefix.{Prefix}
 use Rattle.cells.specs.declared.look.Answer.{Answer}
 use Rattle.cells.proofs.Answers.{small-look}
@@ -19,7 +19,7 @@ use Rattle.octets.specs.Words.{wordCount, most}
 use Rattle.octets.specs.Booking.{Outcome, clearOctets}
 use Rattle.octets.specs.Many.{each, bookEach}
 use Rattle.octets.specs.Bookings.{Bookings, none, _booking_, bookFlow, wordsAfter, isAccepted, names, answerTo, octetsFor, octetsAll, alsoAll, Balances}
-use Rattle.octets.proofs.Entering.{Told, told-look, names?, Did, took, left, did-book, did-long}
+use Rattle.octets.proofs.Entering.{Told, told-look, names?, Did, took, left, did-book, did-long, not-gained}
 
 -- ---- one booking
 
@@ -44,14 +44,7 @@ module _ (r : Answer) (T : Told r) (small : r .hop ≤ 32767) (amount : ℕ) (wo
       ∙ ap (λ (k : ℕ). getD words h 0 + k) (sym (cond-on amount 0 (names? r T z h) e)))
       (λ n. getD-set-other words (r .hop) h (getD words (r .hop) 0 + amount) 0 n
       ∙ omega (arith, cond-off amount 0 (names? r T z h) n))
-  each-gains (left code n) h = omega (arith, none-gained code n)
-    where
-      none-gained : (code : ℕ) → (code ≡ 0 → ⊥) → cond (eqb code 0 && names r h) amount 0 ≡ 0
-      none-gained code n = go (eqb? code 0)
-        where
-          go : {s : Bool} → Decides (code ≡ 0) s → cond (s && names r h) amount 0 ≡ 0
-          go (holds z) = absurd (n z)
-          go (fails m) = refl
+  each-gains (left code n) h = omega (arith, not-gained amount code n (names r h))
 
   all-gain : {o : Outcome} → Did r amount words o → sum wordCount (λ h. getD (o .words) h 0) ≡ sum wordCount (λ h. getD words h 0) + gained o amount
   all-gain (took z l) =

@@ -6,7 +6,7 @@ use Prim.Native.Nat.{ℕ, _+_, _/_, _%_, _≤_, _<_}
 use native.Mathlib.Omega.{arith}
 use lib.Dec.{ltb, eqb, leb, lit<}
 use lib.ListN.{length, getD, set, drop, replicate, length-set, drop-of-length-le}
-use Rattle.ground.proofs.Tests.{Decides, holds, fails, leb?, eqb?, and?, iff?, cond-on, cond-off}
+use Rattle.ground.proofs.Tests.{Decides, holds, fails, leb?, eqb?, and?, iff?, stops, cond-on, cond-off}
 use Rattle.ground.proofs.Cases.{by-eq}
 use Rattle.prefix.specs.declared.Prefix.{Prefix}
 use Rattle.prefix.specs.Prefixes.{contains}
@@ -167,3 +167,7 @@ did-long (left code n) = refl
 
 pub enter-long : (r : Answer) (amount : ℕ) (words : List ℕ) {o : Outcome} → o ≡ enter r amount words → length (o .words) ≡ length words
 enter-long r amount words e = ap (λ (x : Outcome). length (x .words)) e ∙ did-long (did-enter r amount words)
+
+-- a record that is refused adds nothing, whatever word is asked for
+pub not-gained : (amount code : ℕ) → (code ≡ 0 → ⊥) → (asked : Bool) → cond (eqb code 0 && asked) amount 0 ≡ 0
+not-gained amount code n asked = ap (λ (t : Bool). cond (t && asked) amount 0) (stops (eqb? code 0) n)
