@@ -5,14 +5,15 @@ use mathlib.Core.Bool.{true, false, true≢false}
 use mathlib.Core.List.{List}
 use Prim.Native.Nat.{ℕ, _*_, _≤_, _<_}
 use native.Mathlib.Omega.{arith}
+use lib.Dec.{T}
 use lib.ListN.{getD}
-use lib.Ieee.{Float, lt}
+use lib.Ieee.{Float, lt, eq}
 use borrow.Author.Tests.{le-ltb, ltb-false}
 use Rattle.costs.specs.Lines.{rateOf}
 use Rattle.costs.specs.Ranks.{Sound, classOf, ahead, before}
 use Rattle.costs.specs.Sheet.{Ranked, SheetIs}
 use Rattle.ground.proofs.Cases.{by-lt, by-eq, by-cmp}
-use Rattle.costs.proofs.Rates.{truly-above}
+use Rattle.costs.proofs.Rates.{rates-tie, truly-above}
 use Rattle.costs.proofs.Counts.{hop-within}
 use Rattle.costs.proofs.Costs.{class-rate, class-cents, class-none, traffic, ahead-lower, by-rates, by-cents, word-is, in-order, before-order}
 use Rattle.costs.proofs.Unique.{ascends, one-ranking}
@@ -29,8 +30,9 @@ pub record StandsBefore (octets cents : List ℕ) (a b : ℕ) : Type 0 where
   -- where it is above, as f64, a costs more for an octet in true numbers: cents of b / octets of b < cents of a / octets of a
   pub truly : 0 < getD octets a 0 → 0 < getD octets b 0 → lt (rateAt octets cents b) (rateAt octets cents a) ≡ true
       → getD cents b 0 * getD octets a 0 < getD cents a 0 * getD octets b 0
-  -- where it is not, the two rates are level, and a is the lower number
-  pub ties : 0 < getD octets a 0 → 0 < getD octets b 0 → lt (rateAt octets cents b) (rateAt octets cents a) ≡ false → a < b
+  -- where it is not, the two rates are the same f64, and a is the lower number
+  pub ties : 0 < getD octets a 0 → 0 < getD octets b 0 → lt (rateAt octets cents b) (rateAt octets cents a) ≡ false
+      → T (eq (rateAt octets cents a) (rateAt octets cents b)) × (a < b)
   -- with traffic on neither, a has no fewer cents
   pub no-traffic : getD octets a 0 ≡ 0 → getD octets b 0 ≡ 0 → getD cents b 0 ≤ getD cents a 0
   -- and at as many cents a is the lower number
@@ -73,11 +75,17 @@ module _ (os cs : List ℕ) (l : Sound os cs) (a b : ℕ) (p : 0 < a) (q : 0 < b
   cents-tie x y e =
       words-order .1 (by-cents oa ca ob cb (ap₂ classOf (x ∙ sym y) e) (λ f. omega (arith, traffic oa ca f)) ∙ le-ltb cb ca (omega arith))
 
+  no-lower : 0 < oa → 0 < ob → lt (rateAt os cs a) (rateAt os cs b) ≡ false
+  no-lower x y = sym (by-rates ob cb oa ca (level x y) (class-rate ob cb (λ z. omega arith))) ∙ words-order .0
+
   stands-before : StandsBefore os cs a b
   stands-before = record {
-    rates = λ x y. sym (by-rates ob cb oa ca (level x y) (class-rate ob cb (λ z. omega arith))) ∙ words-order .0;
+    rates = no-lower;
     truly = λ x y e. truly-above oa ca ob cb x (l .octets-small a p) (l .cents-small a p) y (l .octets-small b q) (l .cents-small b q) e;
-    ties = λ x y e. words-order .1 (by-rates oa ca ob cb (sym (level x y)) (class-rate oa ca (λ z. omega arith)) ∙ e);
+    ties = λ x y e. (
+      rates-tie oa ca ob cb x (l .octets-small a p) (l .cents-small a p) y (l .octets-small b q) (l .cents-small b q) (no-lower x y) e,
+      words-order .1 (by-rates oa ca ob cb (sym (level x y)) (class-rate oa ca (λ z. omega arith)) ∙ e),
+    );
     no-traffic = cents-fall;
     no-traffic-ties = cents-tie;
     classes = class-le;

@@ -15,7 +15,7 @@ use lib.Ieee.Back.{round-whole}
 use lib.Ieee.Order.{round-mono}
 use lib.Ieee.Scale.{finite, round-same}
 use lib.Ieee.Positive.{positive, between, num, den}
-use borrow.Author.Tests.{ne-eqb, le-ltb}
+use borrow.Author.Tests.{ne-eqb, eq-eqb, le-ltb, ltb-false}
 use Rattle.ground.proofs.Cases.{by-lt}
 use Rattle.costs.specs.Lines.{rateOf, RateSays}
 
@@ -119,6 +119,20 @@ le-cross (fin false m e) (inf t) p q h = absurd q
 le-cross (fin false m e) (fin true n d) p q h = absurd q
 le-cross (fin false m e) (fin false n d) p q h = lt-or-eq (m * up e * down d) (n * up d * down e) h
 
+-- of two such values neither of which is below the other, both are one
+level-one : (x y : Float) → T (plain x) → T (plain y) → lt x y ≡ false → lt y x ≡ false → T (eq x y)
+unfolding lt eq
+level-one nan y p q h k = absurd p
+level-one (inf s) y p q h k = absurd p
+level-one (fin true m e) y p q h k = absurd p
+level-one (fin false m e) nan p q h k = absurd q
+level-one (fin false m e) (inf t) p q h k = absurd q
+level-one (fin false m e) (fin true n d) p q h k = absurd q
+level-one (fin false m e) (fin false n d) p q h k =
+    let a = m * up e * down d in
+    let b = n * up d * down e in
+    subst (λ (t : Bool). T (t && true)) (sym (eq-eqb a b (omega (arith, ltb-false a b h, ltb-false b a k)))) tt
+
 -- ---- the rate
 
 module _ (o c : ℕ) (ho : 0 < o) (lo : o ≤ 2 ^ 53) (lc : c ≤ 2 ^ 53) where
@@ -163,6 +177,10 @@ module _ (o c o′ c′ : ℕ) (ho : 0 < o) (lo : o ≤ 2 ^ 53) (lc : c ≤ 2 ^ 
   -- Rounding keeps the order of the true rates: where c′ / o′ is at most c / o, so is its f64.
   pub true-order : c′ * o ≤ c * o′ → T (le (rateOf o′ c′) (rateOf o c))
   true-order h = rw (once o′ c′ ho′ lo′ lc′, once o c ho lo lc) (round-mono binary64 c′ o′ c o ho′ ho h)
+
+  -- Rates that tie are the same f64.
+  pub rates-tie : lt (rateOf o c) (rateOf o′ c′) ≡ false → lt (rateOf o′ c′) (rateOf o c) ≡ false → T (eq (rateOf o c) (rateOf o′ c′))
+  rates-tie h k = level-one (rateOf o c) (rateOf o′ c′) (rate-plain o c ho lo lc) (rate-plain o′ c′ ho′ lo′ lc′) h k
 
   -- Equal true rates are one f64.
   pub true-tie : c′ * o ≡ c * o′ → rateOf o′ c′ ≡ rateOf o c
