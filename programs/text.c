@@ -103,18 +103,18 @@ static int fill(text *t) {
 
 int text_next(text *t, char **line) {
     for (;;) {
-        char *start = t->from, *end = memchr(start, '\n', t->to - start);
-        int last = !end && t->ended;
-        if (last && start == t->to) return 0;
-        if (last) end = t->to;
-        if (!end && t->to - start <= LINE_BYTES) {
+        char *start = t->from, *end = memchr(start, '\n', t->to - start), *stop = end ? end : t->to;
+        if (!end && t->ended && start == t->to) return 0;
+        if (!end && !t->ended && t->to - start <= LINE_BYTES) {
             if (fill(t) != 0) return -1;
             continue;
         }
         t->number++;
-        if (!end || end - start > LINE_BYTES) return say_line(t, "the line has more than %d bytes", LINE_BYTES), -1;
-        if (memchr(start, '\0', end - start)) return say_line(t, "there is a zero byte in the line"), -1;
-        t->from = last ? end : end + 1;
+        if (stop - start > LINE_BYTES) return say_line(t, "the line has more than %d bytes", LINE_BYTES), -1;
+        if (memchr(start, '\0', stop - start)) return say_line(t, "there is a zero byte in the line"), -1;
+        /* A number that was cut is still a number, and would be booked. */
+        if (!end) return say_line(t, "the file ends inside this line, so it may be cut; where it is whole, end the line"), -1;
+        t->from = end + 1;
         *end = '\0';
         /* Spreadsheets put this mark in front of UTF-8. */
         if (t->number == 1 && strncmp(start, "\xEF\xBB\xBF", 3) == 0) start += 3;

@@ -20,7 +20,7 @@ typedef struct {
     unsigned long number; /* of the line at hand, from 1 */
     char *from, *to;      /* what is read and not handed out */
     int ended;
-    char room[TEXT_BYTES + 1];
+    char room[TEXT_BYTES];
 } text;
 
 /* high * 2^64 + low: no file is long enough for its numbers of 64 bits to pass this. */
@@ -53,7 +53,7 @@ void text_close(text *t);
 
 /*
  * The next line with something in it, without the blanks around it: 1, and it stays until the next call; 0 at the end of the file; -1
- * where the line can't be read, which is said. Blank lines and those that begin with # are passed over.
+ * where the line can't be read or the file ends inside it, which is said. Blank lines and those that begin with # are passed over.
  */
 int text_next(text *t, char **line);
 
