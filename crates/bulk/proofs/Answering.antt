@@ -13,9 +13,11 @@ use Rattle.prefix.specs.declared.Prefix.{Prefix}
 use Rattle.prefix.specs.Prefixes.{Contains}
 use Rattle.prefix.proofs.Prefixes.{contains?, own}
 use Rattle.cells.specs.Cells.{pointerBit}
-use Rattle.cells.specs.Lookup.{refused, standingOf, blockOf, verdictOf, saysOf, lookUp, packed}
-use Rattle.cells.proofs.Reading.{LentToRead, lentToRead?, stands, goes-on}
-use Rattle.cells.proofs.Answers.{decides, small-verdict}
+use Rattle.lookup.specs.Lookup.{refused, standingOf, verdictOf, saysOf, lookUp, packed}
+use Rattle.prefix.specs.Geometry.{blockOf}
+use Rattle.cells.proofs.Lending.{LentToRead, lentToRead?}
+use Rattle.lookup.proofs.Reading.{stands, goes-on}
+use Rattle.lookup.proofs.Answers.{decides, small-verdict}
 use Rattle.bulk.specs.All.{answerOf, allOf}
 use Rattle.bulk.specs.Passes.{blockFrom, placeOf, saidOrPointer, judged, settled}
 use Rattle.bulk.proofs.Inside.{block-from, inside?}

@@ -7,11 +7,10 @@ use lib.Dec.{ltb}
 use Rattle.ground.proofs.Tests.{Decides, ltb?, iff?}
 use Rattle.ground.proofs.Cases.{by-lt}
 use Rattle.prefix.specs.declared.Prefix.{Prefix}
-use Rattle.prefix.specs.Prefixes.{Contains, Territory}
-use Rattle.prefix.specs.Price.{blocks}
+use Rattle.prefix.specs.Prefixes.{Contains}
+use Rattle.prefix.specs.Geometry.{Territory, blocks, blockOf}
 use Rattle.prefix.proofs.Prefixes.{in-range, by-range, ends-within}
-use Rattle.cells.specs.Lookup.{blockOf}
-use Rattle.cells.proofs.Reading.{span-blocks, block-inside}
+use Rattle.prefix.proofs.Spans.{span-blocks, block-inside}
 use Rattle.bulk.specs.Passes.{blockFrom}
 
 module _ {t : Prefix} {a : ℕ} (h : Territory t) (fits : t .address < 2 ^ 32) (small : a < 2 ^ 32) where

@@ -5,7 +5,8 @@ use mathlib.Core.List.{List, map}
 use lib.Dec.{eqb}
 use lib.ListN.{length}
 use Rattle.prefix.specs.declared.Prefix.{Prefix}
-use Rattle.cells.specs.Lookup.{lentToRead, lookUp, packed}
+use Rattle.cells.specs.Memory.{lentToRead}
+use Rattle.lookup.specs.Lookup.{lookUp, packed}
 
 -- what a call answers, and what it leaves in the room for the answers
 pub record Outcome : Type 0 where

@@ -5,7 +5,7 @@ use mathlib.Core.Bool.{cond}
 use mathlib.Core.List.{List}
 use lib.Dec.{ltb}
 use Rattle.cells.specs.Cells.{isPointer}
-use Rattle.cells.specs.Lookup.{refused, verdictOf, saysOf, packed}
+use Rattle.lookup.specs.Lookup.{refused, verdictOf, saysOf, packed}
 
 -- the block of an address, counted from the base on and round the end of the addresses: below `blocks` exactly in the territory
 abbrev pub blockFrom : ℕ → ℕ → ℕ

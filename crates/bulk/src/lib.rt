@@ -7,9 +7,9 @@ ghost use Rattle.ground.specs.Lists.{mapAt};
 ghost use Rattle.bulk.specs.All.{allOf};
 ghost use Rattle.bulk.specs.Passes.{blockFrom, placeOf, saidOrPointer, judged, settled};
 use cells::cell::Cell;
-use cells::look::says;
-use cells::look::standing;
-use cells::look::verdict;
+use lookup::look::says;
+use lookup::look::standing;
+use lookup::look::verdict;
 use prefix::Prefix;
 
 // The block of an address, counted from the base on. An address before the base comes out past every block of the territory, so one

@@ -1,5 +1,3 @@
--- What the words of the tables mean, and what look up and show answer, on any memory.
+-- The lent memory: what its words mean, its parts, and its sizes.
 pub mod Cells
-pub mod Lookup
-pub mod Show
-pub mod Bytes
+pub mod Memory

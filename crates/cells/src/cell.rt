@@ -1,7 +1,7 @@
 // The cell kind: its fixed numbers, named once here, and what a word of the tables holds.
 ghost use mathlib.Core.Path.{_≡_};
-ghost use Prim.Native.Nat.{_≤_};
-ghost use Rattle.cells.specs.Cells.{pack, hopOf, lengthOf, isDirect};
+ghost use Prim.Native.Nat.{_<_, _≤_};
+ghost use Rattle.cells.specs.Cells.{pack, hopOf, lengthOf, isDirect, pointerBit, pointTo, isPointer, segmentOf};
 
 // The kind of a table's words: its numbers and functions, on words that are plain u32.
 pub struct Cell {}
@@ -48,5 +48,27 @@ impl Cell {
             return false;
         }
         Cell::length(cell) <= longest
+    }
+
+    pub fn is_pointer(cell: u32) -> bool
+        ensures { λ r. ⌜ r ≡ isPointer cell ⌝ }
+    {
+        Cell::POINTER <= cell
+    }
+
+    // The number of the segment that a pointer points to.
+    pub fn segment(cell: u32) -> usize
+        requires { ⌜ pointerBit ≤ cell ⌝ }
+        ensures { λ r. ⌜ r ≡ segmentOf cell ⌝ }
+    {
+        (cell - Cell::POINTER) as usize
+    }
+
+    // The pointer to a segment.
+    pub fn point_to(segment: usize) -> u32
+        requires { ⌜ segment < pointerBit ⌝ }
+        ensures { λ r. ⌜ r ≡ pointTo segment ⌝ }
+    {
+        Cell::POINTER + segment as u32
     }
 }

@@ -1,5 +1,3 @@
-// Reading the tables: what a cell says, look up and show on the two lent tables, and look up on bytes, for C.
-pub mod bytes;
+// The lent memory: the cell kind, and the sizes of what is lent.
 pub mod cell;
-pub mod look;
-pub mod show;
+pub mod sizes;

@@ -13,10 +13,10 @@ use Rattle.prefix.specs.Prefixes.{Contains}
 use Rattle.prefix.specs.Routes.{Route, best, IsBest, none, found, AllRoutes, Ascending}
 use Rattle.prefix.proofs.Prefixes.{contains?}
 use Rattle.prefix.proofs.Best.{best-is, longest-unique}
-use Rattle.cells.specs.declared.look.Answer.{Answer}
-use Rattle.cells.specs.Lookup.{refused, lentToRead, blockOf, saysOf, lookUp}
-use Rattle.refusals.specs.Memory.{Lent}
-use Rattle.refusals.proofs.Lending.{IsLent}
+use Rattle.lookup.specs.declared.look.Answer.{Answer}
+use Rattle.lookup.specs.Lookup.{refused, saysOf, lookUp}
+use Rattle.cells.specs.Memory.{lentToRead, Lent, IsLent}
+use Rattle.prefix.specs.Geometry.{blockOf}
 use Rattle.history.specs.History.{History, memory, live, IsAnswer, routed, no-route}
 use Rattle.history.proofs.Histories.{inv-history}
 use Rattle.history.proofs.Demand2.{demand-2}

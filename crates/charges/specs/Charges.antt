@@ -9,7 +9,7 @@ use Rattle.ground.specs.Sums.{sum}
 use Rattle.prefix.specs.declared.Prefix.{Prefix}
 use Rattle.prefix.specs.Prefixes.{Contains}
 use Rattle.prefix.specs.Routes.{Route, Match, no-route, via, best, IsLongest}
-use Rattle.refusals.specs.Memory.{Lent}
+use Rattle.cells.specs.Memory.{Lent}
 use Rattle.history.specs.History.{Call, History, start, _then_, memory, live}
 use Rattle.octets.specs.Words.{wordCount}
 use Rattle.octets.specs.Booking.{Outcome, addTo}

@@ -7,13 +7,12 @@ use native.Mathlib.Omega.{arith}
 use lib.ListN.{length, take, length-append}
 use Rattle.prefix.specs.declared.Prefix.{Prefix}
 use Rattle.prefix.specs.Prefixes.{Contains}
-use Rattle.cells.specs.Lookup.{lookUp}
+use Rattle.lookup.specs.Lookup.{lookUp}
 use Rattle.records.specs.Record.{size}
-use Rattle.refusals.specs.Memory.{Lent, memory as lend}
-use Rattle.refusals.proofs.Lending.{IsLent}
+use Rattle.cells.specs.Memory.{Lent, IsLent}
+use Rattle.history.specs.History.{memory as lend, start, memory, live, IsAnswer}
 use Rattle.updates.specs.declared.Report.{Report}
 use Rattle.updates.specs.Calls.{clear, Meets}
-use Rattle.history.specs.History.{start, memory, live, IsAnswer}
 use Rattle.history.proofs.Demand2.{demand-2}
 use Rattle.stream.specs.declared.Step.{Step}
 use Rattle.stream.specs.declared.Step.the-variants.{Expects, Refused}

@@ -10,25 +10,23 @@ use lib.Seq.{getD-set-other}
 use Rattle.ground.proofs.Tests.{Decides, holds, fails, passes, stops}
 use Rattle.ground.proofs.Cases.{by-lt, by-eq}
 use Rattle.prefix.specs.declared.Prefix.{Prefix}
-use Rattle.prefix.specs.Prefixes.{contains, Encloses, Territory}
-use Rattle.prefix.specs.Price.{opens, isOpen, blocks, blockStart}
+use Rattle.prefix.specs.Prefixes.{contains, Encloses}
+use Rattle.prefix.specs.Geometry.{Territory, blockStart, blockOf, blocks}
+use Rattle.prefix.specs.Price.{opens, isOpen}
 use Rattle.prefix.specs.Routes.{Route, best, with-route, IsRoute, AllRoutes}
 use Rattle.prefix.proofs.Changes.{best-with}
 use Rattle.prefix.proofs.Blocks.{opens?, opened-with, closed, block-top}
 use Rattle.cells.specs.Cells.{pack, pointerBit, pointTo, cellOf}
-use Rattle.cells.specs.Lookup.{blockOf}
-use Rattle.cells.proofs.Reading.{block-inside}
+use Rattle.prefix.proofs.Spans.{block-inside, opens-own, opens-only, aligned}
 use Rattle.refusals.specs.Codes.{noZero, needsSegment}
 use Rattle.tables.specs.Cellwise.{paintCell}
-use Rattle.refusals.specs.Memory.{Lent, lowestFree}
+use Rattle.cells.specs.Memory.{Lent, lowestFree}
 use Rattle.refusals.proofs.FreeWords.{lowest-free}
 use Rattle.refusals.proofs.Refusing.{needsSegment?}
 use Rattle.updates.specs.Effects.{repainted, openedAt, opened}
 use Rattle.history.proofs.Tables.{Tables, closed-cell, open-pointer, retold, pointer-stays, repaint-step, open-step}
 use Rattle.history.proofs.Matches.{best-good, cell-direct, paint-better}
 use Rattle.history.proofs.LiveTables.{TablesOf}
-use Rattle.cells.proofs.Spans.{opens-own, opens-only}
-use Rattle.cells.proofs.Spans.{aligned}
 
 module _ (t : Prefix) (r : Route) (rs : List Route) (m : Lent) (T : TablesOf t rs m) (h : Territory t) (route : IsRoute r)
     (e : Encloses t (r .prefix)) (all : AllRoutes rs) where

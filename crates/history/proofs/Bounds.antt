@@ -10,12 +10,12 @@ use Rattle.ground.specs.Sums.{sum}
 use Rattle.ground.proofs.Tests.{by-test}
 use Rattle.ground.proofs.Sums.{sum-le, sum-window, sum-const}
 use Rattle.prefix.specs.declared.Prefix.{Prefix}
-use Rattle.prefix.specs.Prefixes.{WellFormed, Contains, Encloses, Territory}
-use Rattle.prefix.specs.Price.{isOpen, differ, blockPrice, blocks, blockStart, price}
+use Rattle.prefix.specs.Prefixes.{WellFormed, Contains, Encloses}
+use Rattle.prefix.specs.Geometry.{Territory, blockStart, blockOf, blocks}
+use Rattle.prefix.specs.Price.{isOpen, differ, blockPrice, price}
 use Rattle.prefix.specs.Routes.{Route, Match, no-route, best}
 use Rattle.prefix.proofs.Blocks.{Opens, same?, differ-same, differ-other, block-none}
-use Rattle.cells.specs.Lookup.{blockOf}
-use Rattle.cells.proofs.Spans.{touches, blocks-inside, opens-only}
+use Rattle.prefix.proofs.Spans.{touches, blocks-inside, opens-only}
 
 -- ---- what a block costs at most
 

@@ -16,11 +16,12 @@ use Rattle.ground.proofs.Tests.{eqb?, by-test, cond-on, cond-off}
 use Rattle.ground.proofs.Lists.{differs-same, differs-other, differing-sum}
 use Rattle.ground.proofs.Sums.{sum-cong, sum-none, sum-groups}
 use Rattle.prefix.specs.declared.Prefix.{Prefix}
-use Rattle.prefix.specs.Price.{isOpen, differ, blocks, blockStart, price}
+use Rattle.prefix.specs.Price.{isOpen, differ, price}
+use Rattle.prefix.specs.Geometry.{blocks, blockStart}
 use Rattle.prefix.specs.Routes.{Route, no-route, best, AllRoutes}
 use Rattle.prefix.proofs.Blocks.{entryDiffers, cell, price-cells, differ-same}
 use Rattle.cells.specs.Cells.{pointTo, cellOf}
-use Rattle.refusals.specs.Memory.{Lent}
+use Rattle.cells.specs.Memory.{Lent}
 use Rattle.updates.specs.Calls.{changed}
 use Rattle.history.proofs.Tables.{Tables, Belongs}
 use Rattle.history.proofs.Matches.{Good, best-good, cell-direct, cells-differ}

@@ -10,19 +10,19 @@ use lib.ListN.{length, getD}
 use Rattle.ground.proofs.Tests.{leb?, ltb?, eqb?, passes, stops}
 use Rattle.prefix.specs.declared.Prefix.{Prefix}
 use Rattle.prefix.specs.Prefixes.{top, Contains}
-use Rattle.prefix.specs.Price.{isOpen, blocks, blockStart}
+use Rattle.prefix.specs.Price.{isOpen}
+use Rattle.prefix.specs.Geometry.{blocks, blockStart, blockOf}
 use Rattle.prefix.specs.Routes.{Route, Match, no-route, via, best, IsBest, none, found}
 use Rattle.prefix.proofs.Prefixes.{in-range}
 use Rattle.prefix.proofs.Best.{best-is}
 use Rattle.prefix.proofs.Blocks.{closed, closed-short, block-top}
-use Rattle.cells.specs.declared.look.Answer.{Answer}
+use Rattle.lookup.specs.declared.look.Answer.{Answer}
 use Rattle.cells.specs.Cells.{empty, pointerBit, isPointer, segmentOf, hopOf, cellOf}
-use Rattle.cells.specs.Lookup.{refused, blockOf, verdictOf, saysOf, lookUp, found as found-hop}
+use Rattle.lookup.specs.Lookup.{refused, verdictOf, saysOf, lookUp, found as found-hop}
 use Rattle.cells.proofs.Direct.{isDirect?}
-use Rattle.cells.proofs.Reading.{Stands, block-inside, goes-on}
-use Rattle.refusals.specs.Memory.{Lent}
-use Rattle.cells.proofs.Spans.{aligned}
-use Rattle.refusals.proofs.Lending.{IsLent}
+use Rattle.lookup.proofs.Reading.{Stands, goes-on}
+use Rattle.prefix.proofs.Spans.{block-inside, aligned}
+use Rattle.cells.specs.Memory.{Lent, IsLent}
 use Rattle.history.specs.History.{History, memory, live, IsAnswer, routed, no-route as unrouted}
 use Rattle.history.proofs.Matches.{Good, best-good, cell-direct}
 use Rattle.history.proofs.Invariant.{Inv}

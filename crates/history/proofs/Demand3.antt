@@ -12,14 +12,14 @@ use Rattle.ground.proofs.Tests.{Decides, holds, fails, eqb?, stops}
 use Rattle.ground.proofs.Lists.{differing-refl}
 use Rattle.prefix.specs.declared.Prefix.{Prefix}
 use Rattle.prefix.specs.Prefixes.{Contains}
-use Rattle.prefix.specs.Price.{isOpen, blocks, blockStart, price}
+use Rattle.prefix.specs.Price.{isOpen, price}
+use Rattle.prefix.specs.Geometry.{blocks, blockStart}
 use Rattle.prefix.specs.Routes.{Route, best, with-route, without}
 use Rattle.prefix.proofs.Best.{better-off}
 use Rattle.prefix.proofs.Changes.{best-with, with-same, without-other}
 use Rattle.prefix.proofs.Blocks.{Opens, opens?, opened-with, opened-without-other, price-none}
 use Rattle.rules.proofs.Indices.{IsLive}
-use Rattle.refusals.specs.Memory.{Lent}
-use Rattle.refusals.proofs.Lending.{IsLent}
+use Rattle.cells.specs.Memory.{Lent, IsLent}
 use Rattle.refusals.specs.Codes.{announceCode, withdrawCode, reHomeCode}
 use Rattle.updates.specs.Effects.{listing, announced, closed, repainted, withdrawn}
 use Rattle.tables.specs.Cellwise.{unpaintCell}

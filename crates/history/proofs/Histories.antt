@@ -12,18 +12,17 @@ use Rattle.prefix.proofs.Prefixes.{wellFormed?}
 use Rattle.prefix.proofs.Best.{isRoute?}
 use Rattle.rules.specs.Rules.{routes, isLive}
 use Rattle.rules.proofs.Indices.{IsLive, isLive?}
-use Rattle.refusals.specs.Memory.{Lent}
-use Rattle.refusals.proofs.Lending.{IsLent, isLent?}
+use Rattle.cells.specs.Memory.{Lent, IsLent}
+use Rattle.cells.proofs.Lending.{isLent?}
 use Rattle.refusals.proofs.Refusing.{needsSegment?, announce-passed, live-passed}
 use Rattle.refusals.specs.Codes.{noZero, needsSegment, announceCode, withdrawCode, reHomeCode, clearCode}
 use Rattle.updates.specs.Effects.{cleared, announced, withdrawn}
 use Rattle.updates.specs.Calls.{Outcome, accepted, refused, outcome, clear, announce, withdraw, reHome}
-use Rattle.prefix.specs.Price.{isOpen, blockStart}
+use Rattle.prefix.specs.Price.{isOpen}
+use Rattle.prefix.specs.Geometry.{blockStart, blockOf}
 use Rattle.prefix.proofs.Blocks.{Opens, opened?}
-use Rattle.cells.specs.Lookup.{blockOf}
-use Rattle.cells.proofs.Reading.{block-inside}
+use Rattle.prefix.proofs.Spans.{block-inside, opens-own}
 use Rattle.history.proofs.Tables.{closed-cell}
-use Rattle.cells.proofs.Spans.{opens-own}
 use Rattle.history.specs.History.{announces, withdraws, re-homes, History, start, _then_, memory, report, isAccepted, live}
 use Rattle.history.proofs.Invariant.{Inv, inv-start, live-routes, announce-keeps, withdraw-keeps}
 

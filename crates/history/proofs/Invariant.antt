@@ -10,23 +10,22 @@ use lib.ListN.{length, getD, replicate, length-set, length-replicate, getD-repli
 use Rattle.ground.proofs.Tests.{eqb?, stops}
 use Rattle.ground.proofs.Cases.{by-lt}
 use Rattle.prefix.specs.declared.Prefix.{Prefix}
-use Rattle.prefix.specs.Prefixes.{key, WellFormed, Encloses, Territory}
-use Rattle.prefix.specs.Price.{opened as opened-run, blockStart}
+use Rattle.prefix.specs.Prefixes.{key, WellFormed, Encloses}
+use Rattle.prefix.specs.Geometry.{Territory, blockStart, blockOf}
+use Rattle.prefix.specs.Price.{opened as opened-run}
 use Rattle.prefix.specs.Routes.{Route, best, with-route, without, keep, other, IsRoute, AllRoutes, Ascending}
 use Rattle.prefix.proofs.Changes.{with-cases, keep-cases, with-mem, with-routes, with-ascending, without-mem, without-routes, without-ascending}
 use Rattle.rules.specs.Words.{wordOf}
 use Rattle.rules.specs.Rules.{routes, wordsOf, isLive}
 use Rattle.rules.proofs.RouteWords.{routes-words, length-words-of}
 use Rattle.rules.proofs.Words.{some-route}
-use Rattle.refusals.specs.Memory.{Lent, lowestFree}
-use Rattle.refusals.proofs.Lending.{IsLent}
+use Rattle.cells.specs.Memory.{Lent, lowestFree, IsLent}
 use Rattle.refusals.specs.Codes.{noZero, needsSegment}
 use Rattle.updates.proofs.Putting.{opened-rules}
 use Rattle.updates.proofs.Taking.{closed-rules}
 use Rattle.updates.specs.Effects.{cleared, listing, announced, withdrawn, closes, closed, closedAt, opened, openedAt, repainted}
 use Rattle.tables.specs.Cellwise.{paintCell, unpaintCell}
 use Rattle.cells.specs.Cells.{pack, segmentOf, cellOf}
-use Rattle.cells.specs.Lookup.{blockOf}
 use Rattle.rules.proofs.Indices.{IsLive}
 use Rattle.history.proofs.Tables.{retold, cleared-tables}
 use Rattle.history.proofs.LiveTables.{TablesOf}

@@ -1,10 +1,11 @@
 -- The tables of a live list: what a history leaves in the two tables and the owner words. Assumes nothing.
 use mathlib.Core.List.{List}
 use Rattle.prefix.specs.declared.Prefix.{Prefix}
-use Rattle.prefix.specs.Price.{isOpen, blockStart}
+use Rattle.prefix.specs.Price.{isOpen}
+use Rattle.prefix.specs.Geometry.{blockStart}
 use Rattle.prefix.specs.Routes.{Route, best}
 use Rattle.cells.specs.Cells.{cellOf}
-use Rattle.refusals.specs.Memory.{Lent}
+use Rattle.cells.specs.Memory.{Lent}
 use Rattle.history.proofs.Tables.{Tables}
 
 -- open blocks are those in which a live prefix longer than 24 lies, and the cell of an address is that of its longest match

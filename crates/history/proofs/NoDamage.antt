@@ -10,20 +10,18 @@ use lib.ListN.{length, getD}
 use Rattle.ground.proofs.Tests.{passes, says}
 use Rattle.prefix.specs.declared.Prefix.{Prefix}
 use Rattle.prefix.specs.Prefixes.{wellFormed, encloses, WellFormed, Encloses}
-use Rattle.prefix.specs.Price.{blocks, blockStart}
+use Rattle.prefix.specs.Geometry.{blocks, blockStart, blockOf}
 use Rattle.prefix.specs.Routes.{Route, Match, no-route, via, best, isRoute}
 use Rattle.prefix.proofs.Prefixes.{wellFormed?, encloses?}
 use Rattle.prefix.proofs.Best.{isRoute?}
 use Rattle.prefix.proofs.Blocks.{closed-short}
 use Rattle.cells.specs.Cells.{segmentOf, cellOf}
-use Rattle.cells.specs.Lookup.{blockOf}
 use Rattle.rules.specs.Rules.{routes, isLive, Formed}
 use Rattle.rules.proofs.RouteWords.{words-formed}
-use Rattle.refusals.specs.Memory.{Lent, isLent}
+use Rattle.cells.specs.Memory.{Lent, isLent, IsLent}
 use Rattle.refusals.specs.Damage.{undamaged}
 use Rattle.refusals.specs.Codes.{noZero, needsSegment, tested, announceCode, withdrawCode, reHomeCode}
-use Rattle.refusals.proofs.Lending.{IsLent}
-use Rattle.cells.proofs.Spans.{blocks-inside}
+use Rattle.prefix.proofs.Spans.{blocks-inside}
 use Rattle.refusals.proofs.Soundness.{Clean, SegmentSound, BlockSound, undamaged?}
 use Rattle.updates.specs.Effects.{announced, withdrawn}
 use Rattle.updates.specs.Calls.{accepted, refused, outcome, announce, withdraw, reHome}

@@ -12,7 +12,7 @@ use Rattle.ground.proofs.Cases.{by-eq}
 use Rattle.ground.proofs.Lists.{getD-where, length-where}
 use Rattle.prefix.specs.declared.Prefix.{Prefix}
 use Rattle.prefix.specs.Prefixes.{contains}
-use Rattle.prefix.specs.Price.{blocks, blockStart}
+use Rattle.prefix.specs.Geometry.{blocks, blockStart}
 use Rattle.cells.specs.Cells.{pointerBit, pointTo}
 use Rattle.tables.specs.Cellwise.{directIn, cellAddress, isOpenSegment, openIn, firstChanged, longChanged}
 use Rattle.tables.specs.Segments.{segmentFilled}

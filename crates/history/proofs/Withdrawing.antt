@@ -9,22 +9,21 @@ use lib.Seq.{getD-set-other}
 use Rattle.ground.proofs.Tests.{Decides, holds, fails, passes}
 use Rattle.ground.proofs.Cases.{by-lt, by-eq}
 use Rattle.prefix.specs.declared.Prefix.{Prefix}
-use Rattle.prefix.specs.Prefixes.{contains, WellFormed, Encloses, Territory}
-use Rattle.prefix.specs.Price.{isOpen, blocks, blockStart}
+use Rattle.prefix.specs.Prefixes.{contains, WellFormed, Encloses}
+use Rattle.prefix.specs.Geometry.{Territory, blockStart, blockOf, blocks}
+use Rattle.prefix.specs.Price.{isOpen}
 use Rattle.prefix.specs.Routes.{Route, best, without, AllRoutes, Ascending}
 use Rattle.prefix.proofs.Blocks.{Opens, opened?, opened-without-other, opened-fewer}
 use Rattle.prefix.proofs.Changes.{without-routes}
 use Rattle.cells.specs.Cells.{pointerBit, pointTo, segmentOf, cellOf}
-use Rattle.cells.specs.Lookup.{blockOf}
-use Rattle.cells.proofs.Reading.{block-inside}
-use Rattle.refusals.specs.Memory.{Lent}
+use Rattle.prefix.proofs.Spans.{block-inside, opens-own, opens-only}
+use Rattle.cells.specs.Memory.{Lent}
 use Rattle.tables.specs.Cellwise.{unpaintCell}
 use Rattle.updates.proofs.Taking.{closes?}
 use Rattle.updates.specs.Effects.{repainted, closedAt, closes, closed}
 use Rattle.history.proofs.Tables.{Tables, retold, pointer-stays, repaint-step, close-step}
 use Rattle.history.proofs.Matches.{best-good, cell-direct, unpaint-best}
 use Rattle.history.proofs.LiveTables.{TablesOf}
-use Rattle.cells.proofs.Spans.{opens-own, opens-only}
 
 module _ (t p : Prefix) (rs : List Route) (m : Lent) (T : TablesOf t rs m) (h : Territory t) (w : WellFormed p)
     (e : Encloses t p) (all : AllRoutes rs) (order : Ascending rs) (r : Route) (live : Mem r rs) (is : r .prefix ≡ p) where

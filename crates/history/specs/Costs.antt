@@ -5,10 +5,10 @@ use mathlib.Core.Bool.{cond}
 use mathlib.Core.List.{List}
 use Rattle.ground.specs.Sums.{sum}
 use Rattle.prefix.specs.declared.Prefix.{Prefix}
-use Rattle.prefix.specs.Price.{isOpen, blocks, blockStart, price}
+use Rattle.prefix.specs.Price.{isOpen, price}
+use Rattle.prefix.specs.Geometry.{blocks, blockStart, blockOf}
 use Rattle.prefix.specs.Routes.{Route}
-use Rattle.cells.specs.Lookup.{blockOf}
-use Rattle.refusals.specs.Memory.{Lent}
+use Rattle.cells.specs.Memory.{Lent}
 use Rattle.updates.specs.Calls.{changed}
 
 -- the blocks inside the prefix, and 255 for each that has a segment open

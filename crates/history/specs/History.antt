@@ -8,9 +8,9 @@ use lib.Dec.{eqb}
 use Rattle.prefix.specs.declared.Prefix.{Prefix}
 use Rattle.prefix.specs.Prefixes.{Contains}
 use Rattle.prefix.specs.Routes.{Route, with-route, without, IsLongest}
-use Rattle.cells.specs.declared.look.Answer.{Answer}
-use Rattle.cells.specs.Lookup.{found, refused}
-use Rattle.refusals.specs.Memory.{Lent}
+use Rattle.lookup.specs.declared.look.Answer.{Answer}
+use Rattle.lookup.specs.Lookup.{found, refused}
+use Rattle.cells.specs.Memory.{Lent}
 use Rattle.updates.specs.declared.Report.{Report}
 use Rattle.updates.specs.Calls.{Outcome, clear, announce, withdraw, reHome}
 

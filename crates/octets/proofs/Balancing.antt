@@ -13,8 +13,8 @@ use Rattle.ground.proofs.Sums.{sum-none, sum-change}
 use Rattle.ground.proofs.Cases.{by-eq}
 use Rattle.ground.proofs.Tests.{eqb?, cond-on, cond-off}
 use Rattle.prefix.specs.declared.Prefix.{Prefix}
-use Rattle.cells.specs.declared.look.Answer.{Answer}
-use Rattle.cells.proofs.Answers.{small-look}
+use Rattle.lookup.specs.declared.look.Answer.{Answer}
+use Rattle.lookup.proofs.Answers.{small-look}
 use Rattle.octets.specs.Words.{wordCount, most}
 use Rattle.octets.specs.Booking.{Outcome, clearOctets}
 use Rattle.octets.specs.Many.{each, bookEach}

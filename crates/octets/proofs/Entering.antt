@@ -10,9 +10,10 @@ use Rattle.ground.proofs.Tests.{Decides, holds, fails, leb?, eqb?, and?, iff?, 
 use Rattle.ground.proofs.Cases.{by-eq}
 use Rattle.prefix.specs.declared.Prefix.{Prefix}
 use Rattle.prefix.specs.Prefixes.{contains}
-use Rattle.cells.specs.declared.look.Answer.{Answer}
+use Rattle.lookup.specs.declared.look.Answer.{Answer}
 use Rattle.cells.specs.Cells.{empty, hopOf, isPointer, segmentOf}
-use Rattle.cells.specs.Lookup.{refused as no-hop, found, lentToRead, verdictOf, saysOf, lookUp}
+use Rattle.lookup.specs.Lookup.{refused as no-hop, found, verdictOf, saysOf, lookUp}
+use Rattle.cells.specs.Memory.{lentToRead}
 use Rattle.cells.proofs.Direct.{Direct, isDirect?}
 use Rattle.octets.specs.Words.{wordCount, most}
 use Rattle.octets.specs.Booking.{Outcome, refused, clearOctets, addTo, refusalOf, enter, book}

@@ -12,10 +12,11 @@ use lib.ListN.{length, getD, set, take, drop, length-set, drop-of-length-le}
 use lib.Seq.{drop-cons, take-all, take-suc-set, append-snoc, drop-set-lt}
 use Rattle.ground.proofs.Tests.{Decides, holds, fails, eqb?, and?, cond-on, cond-off}
 use Rattle.prefix.specs.declared.Prefix.{Prefix}
-use Rattle.cells.specs.declared.look.Answer.{Answer}
-use Rattle.cells.specs.Lookup.{lentToRead, lookUp, packed}
-use Rattle.cells.proofs.Reading.{LentToRead, lentToRead?}
-use Rattle.cells.proofs.Answers.{small-look, unpacked}
+use Rattle.lookup.specs.declared.look.Answer.{Answer}
+use Rattle.cells.specs.Memory.{lentToRead}
+use Rattle.lookup.specs.Lookup.{lookUp, packed}
+use Rattle.cells.proofs.Lending.{LentToRead, lentToRead?}
+use Rattle.lookup.proofs.Answers.{small-look, unpacked}
 use Rattle.bulk.specs.All.{answerOf, allOf, Outcome as All}
 use Rattle.octets.specs.Words.{wordCount}
 use Rattle.octets.specs.Booking.{Outcome, enter, book}

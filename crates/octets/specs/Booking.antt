@@ -5,8 +5,8 @@ use Prim.Native.Nat.{ℕ, _+_}
 use lib.Dec.{leb, eqb}
 use lib.ListN.{length, getD, set, replicate}
 use Rattle.prefix.specs.declared.Prefix.{Prefix}
-use Rattle.cells.specs.declared.look.Answer.{Answer}
-use Rattle.cells.specs.Lookup.{lookUp}
+use Rattle.lookup.specs.declared.look.Answer.{Answer}
+use Rattle.lookup.specs.Lookup.{lookUp}
 use Rattle.octets.specs.Words.{wordCount, most}
 
 -- what a call answers, and the words that it leaves

@@ -8,8 +8,8 @@ use lib.Dec.{eqb}
 use lib.ListN.{getD}
 use Rattle.ground.specs.Sums.{sum}
 use Rattle.prefix.specs.declared.Prefix.{Prefix}
-use Rattle.cells.specs.declared.look.Answer.{Answer}
-use Rattle.cells.specs.Lookup.{lookUp}
+use Rattle.lookup.specs.declared.look.Answer.{Answer}
+use Rattle.lookup.specs.Lookup.{lookUp}
 use Rattle.octets.specs.Words.{wordCount, most}
 use Rattle.octets.specs.Booking.{Outcome, clearOctets, book}
 

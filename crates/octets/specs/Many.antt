@@ -5,7 +5,7 @@ use Prim.Native.Nat.{ℕ, _/_, _%_}
 use lib.Dec.{eqb}
 use lib.ListN.{length}
 use Rattle.prefix.specs.declared.Prefix.{Prefix}
-use Rattle.cells.specs.Lookup.{lentToRead}
+use Rattle.cells.specs.Memory.{lentToRead}
 use Rattle.octets.specs.Words.{wordCount}
 use Rattle.octets.specs.Booking.{Outcome, enter, book}
 

@@ -9,7 +9,7 @@ ghost use Rattle.octets.specs.Many.{enterEach, bookAll};
 pub mod words;
 
 use bulk::look_up_all;
-use cells::look::look_up;
+use lookup::look::look_up;
 use prefix::Prefix;
 use words::Words;
 

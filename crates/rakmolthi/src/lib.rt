@@ -2,13 +2,13 @@
 // its manual.
 ghost use mathlib.Core.Path.{_≡_};
 ghost use Rattle.bulk.specs.All.{allOf};
-ghost use Rattle.cells.specs.Bytes.{lookUpBytes};
+ghost use Rattle.lookup.specs.Bytes.{lookUpBytes};
 ghost use Rattle.costs.specs.Lines.{lineOf, valuesOf};
 ghost use Rattle.costs.specs.Sheet.{SheetIs};
 ghost use Rattle.octets.specs.Booking.{clearOctets, book};
 ghost use Rattle.octets.specs.Many.{bookAll};
 ghost use Rattle.records.specs.Record.{readAs, Writes};
-ghost use Rattle.refusals.specs.Memory.{memory};
+ghost use Rattle.cells.specs.Memory.{memory};
 ghost use Rattle.rules.specs.Words.{routeBy};
 ghost use Rattle.updates.specs.Calls.{announce, withdraw, reHome, clear, Meets};
 use costs::line::Values;
@@ -31,7 +31,7 @@ pub extern "C" fn rk_look_up(
         address: base,
         length: base_length,
     };
-    cells::bytes::look_up_bytes(first, long_table, territory, address)
+    lookup::bytes::look_up_bytes(first, long_table, territory, address)
 }
 
 #[no_mangle]

@@ -12,7 +12,7 @@ use borrow.Author.Tests.{eqb-true}
 use Rattle.ground.proofs.Tests.{Decides, holds, fails, eqb?, iff?, same-test}
 use Rattle.rules.specs.Rules.{live, Listed}
 use Rattle.rules.proofs.LiveWords.{live-first}
-use Rattle.refusals.specs.Memory.{lowestFree}
+use Rattle.cells.specs.Memory.{lowestFree}
 use Rattle.refusals.specs.Codes.{noZero}
 
 -- the first word that is 0 stands after the words before it

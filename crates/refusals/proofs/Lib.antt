@@ -1,5 +1,4 @@
 -- Laws of what is lent, of damage and of the numbers of refusal; the crates above cite them.
-pub mod Lending
 pub mod Soundness
 pub mod Walking
 pub mod FreeWords

@@ -14,14 +14,14 @@ use Rattle.prefix.specs.Prefixes.{encloses, Encloses}
 use Rattle.prefix.specs.Routes.{Route, isRoute}
 use Rattle.prefix.proofs.Prefixes.{encloses?, in-range}
 use Rattle.cells.specs.Cells.{pointerBit}
-use Rattle.cells.specs.Lookup.{blockOf}
-use Rattle.cells.proofs.Reading.{block-inside}
+use Rattle.prefix.specs.Geometry.{blockOf}
+use Rattle.prefix.proofs.Spans.{block-inside}
 use Rattle.rules.specs.Rules.{routes, isLive}
 use Rattle.refusals.specs.declared.codes.Checked.{Checked}
-use Rattle.refusals.specs.Memory.{Lent, isLent}
+use Rattle.cells.specs.Memory.{Lent, isLent, IsLent}
 use Rattle.refusals.specs.Damage.{undamaged}
 use Rattle.refusals.specs.Codes.{noZero, needsSegment, tested, announceCode, refusedBy, CheckedIs}
-use Rattle.refusals.proofs.Lending.{IsLent, isLent?}
+use Rattle.cells.proofs.Lending.{isLent?}
 use Rattle.refusals.proofs.FreeWords.{all-live}
 use Rattle.refusals.proofs.Soundness.{true?, Undamaged, undamaged?}
 

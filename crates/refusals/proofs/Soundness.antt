@@ -13,14 +13,14 @@ use Rattle.ground.specs.Lists.{everyBelow}
 use Rattle.ground.proofs.Tests.{Decides, holds, fails, leb?, ltb?, eqb?, and?, or?, iff?}
 use Rattle.ground.proofs.Lists.{everyBelow?}
 use Rattle.prefix.specs.declared.Prefix.{Prefix}
-use Rattle.prefix.specs.Price.{isOpen, blockStart, blocks}
+use Rattle.prefix.specs.Price.{isOpen}
+use Rattle.prefix.specs.Geometry.{blockStart, blocks, blockOf}
 use Rattle.prefix.specs.Routes.{Route}
 use Rattle.cells.specs.Cells.{empty, pointerBit, segmentOf}
-use Rattle.cells.specs.Lookup.{blockOf}
 use Rattle.cells.proofs.Direct.{Direct, isDirect?}
 use Rattle.rules.specs.Rules.{routes, Formed}
 use Rattle.rules.proofs.FormTests.{formed?}
-use Rattle.refusals.specs.Memory.{Lent}
+use Rattle.cells.specs.Memory.{Lent}
 use Rattle.refusals.specs.Damage.{isClean, segmentSound, soundBy, blockSound, blocksSound, undamaged}
 use Rattle.refusals.specs.Walk.{cleanRun}
 

@@ -14,10 +14,10 @@ use Rattle.ground.proofs.Cases.{by-lt}
 use Rattle.prefix.specs.declared.Prefix.{Prefix}
 use Rattle.prefix.specs.Prefixes.{top}
 use Rattle.prefix.specs.Routes.{Route}
-use Rattle.prefix.specs.Price.{isOpen, blocks}
+use Rattle.prefix.specs.Price.{isOpen}
+use Rattle.prefix.specs.Geometry.{blocks, blockOf}
 use Rattle.prefix.proofs.Blocks.{Opened, opened?}
 use Rattle.cells.specs.Cells.{pointerBit}
-use Rattle.cells.specs.Lookup.{blockOf}
 use Rattle.rules.specs.Words.{prefixOf, routeOf}
 use Rattle.rules.specs.Rules.{routes, Listed}
 use Rattle.rules.proofs.Indices.{routes-index, index-routes, listed-order}

@@ -10,10 +10,10 @@ use Rattle.prefix.specs.declared.Prefix.{Prefix}
 use Rattle.prefix.specs.Prefixes.{wellFormed, encloses}
 use Rattle.prefix.specs.Routes.{Route, isRoute}
 use Rattle.cells.specs.Cells.{isPointer}
-use Rattle.cells.specs.Lookup.{blockOf}
+use Rattle.prefix.specs.Geometry.{blockOf}
 use Rattle.rules.specs.Rules.{routes, isLive, Listed, PlaceIs}
 use Rattle.refusals.specs.declared.codes.Checked.{Checked}
-use Rattle.refusals.specs.Memory.{Lent, isLent}
+use Rattle.cells.specs.Memory.{Lent, isLent}
 use Rattle.refusals.specs.Damage.{undamaged}
 
 -- no word is 0

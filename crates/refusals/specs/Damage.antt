@@ -6,12 +6,12 @@ use lib.Dec.{ltb, eqb}
 use lib.ListN.{length, getD}
 use Rattle.ground.specs.Lists.{everyBelow}
 use Rattle.prefix.specs.declared.Prefix.{Prefix}
-use Rattle.prefix.specs.Price.{isOpen, blockStart, blocks}
+use Rattle.prefix.specs.Price.{isOpen}
+use Rattle.prefix.specs.Geometry.{blockStart, blocks, blockOf}
 use Rattle.prefix.specs.Routes.{Route}
 use Rattle.cells.specs.Cells.{empty, isDirect, isPointer, segmentOf}
-use Rattle.cells.specs.Lookup.{blockOf}
 use Rattle.rules.specs.Rules.{routes, formed}
-use Rattle.refusals.specs.Memory.{Lent}
+use Rattle.cells.specs.Memory.{Lent}
 
 -- a cell is 0 or direct, with a length of at most `longest`
 abbrev pub isClean : ℕ → ℕ → Bool

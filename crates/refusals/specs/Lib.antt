@@ -1,5 +1,4 @@
--- What is lent to an update, and when an update is refused.
-pub mod Memory
+-- When an update is refused.
 pub mod Damage
 pub mod Walk
 pub mod Codes

@@ -8,7 +8,8 @@ use lib.Dec.{eqb}
 use borrow.Author.Tests.{eq-eqb}
 use Rattle.ground.proofs.Tests.{Decides, and?, iff?, says, same-test}
 use Rattle.prefix.specs.declared.Prefix.{Prefix}
-use Rattle.prefix.specs.Prefixes.{span, key, clearedOf, Contains, Territory}
+use Rattle.prefix.specs.Prefixes.{span, key, clearedOf, Contains}
+use Rattle.prefix.specs.Geometry.{Territory}
 use Rattle.prefix.specs.Routes.{Route, IsRoute}
 use Rattle.prefix.proofs.Prefixes.{encloses?, clear?, agree?}
 use Rattle.prefix.proofs.Best.{isRoute?}

@@ -4,7 +4,7 @@ ghost use mathlib.Core.Bool.{_&&_};
 ghost use Prim.Native.Nat.{_≤_};
 ghost use lib.Dec.{leb, eqb};
 ghost use lib.ListN.{length, drop};
-ghost use Rattle.prefix.specs.Prefixes.{Territory};
+ghost use Rattle.prefix.specs.Geometry.{Territory};
 ghost use Rattle.rules.specs.Words.{wordKey, isRule};
 ghost use Rattle.rules.specs.Rules.{every, CountIs, FormIs};
 use crate::word::Rule;

@@ -1,7 +1,7 @@
 // One rule word: only this file knows the layout.
 ghost use mathlib.Core.Path.{_≡_};
 ghost use Prim.Native.Nat.{_<_};
-ghost use Rattle.prefix.specs.Prefixes.{Territory};
+ghost use Rattle.prefix.specs.Geometry.{Territory};
 ghost use Rattle.rules.specs.Words.{prefixOf, routeOf, routeBy, wordOf, wordKey, keyOf, isRule};
 use prefix::Prefix;
 use prefix::cleared;

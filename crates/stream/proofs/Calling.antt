@@ -6,13 +6,12 @@ use Rattle.ground.proofs.Tests.{eqb?, cond-on, cond-off}
 use Rattle.prefix.specs.declared.Prefix.{Prefix}
 use Rattle.records.specs.declared.Update.{Update}
 use Rattle.records.specs.declared.Reading.{Reading}
-use Rattle.records.specs.Record.{readAs}
-use Rattle.records.specs.Record.{announce as announceKind, withdraw as withdrawKind}
+use Rattle.records.specs.Record.{readAs, announce as announceKind, withdraw as withdrawKind}
 use Rattle.rules.specs.Words.{routeBy}
-use Rattle.refusals.specs.Memory.{Lent, memory}
+use Rattle.cells.specs.Memory.{Lent}
+use Rattle.history.specs.History.{memory, Call, announces, withdraws, re-homes, step}
 use Rattle.updates.specs.declared.Report.{Report}
 use Rattle.updates.specs.Calls.{Outcome, announce, withdraw, reHome, Meets}
-use Rattle.history.specs.History.{Call, announces, withdraws, re-homes, step}
 use Rattle.stream.specs.Stream.{callOf}
 use Rattle.stream.specs.Taking.{TurnIs}
 

@@ -14,8 +14,7 @@ use Rattle.prefix.specs.Routes.{Route, AllRoutes}
 use Rattle.rules.specs.Words.{wordOf}
 use Rattle.rules.specs.Rules.{wordsOf}
 use Rattle.rules.proofs.Words.{some-route}
-use Rattle.refusals.specs.Memory.{Lent}
-use Rattle.refusals.proofs.Lending.{IsLent}
+use Rattle.cells.specs.Memory.{Lent, IsLent}
 use Rattle.history.specs.History.{History, memory, live}
 use Rattle.history.proofs.Histories.{inv-history}
 use Rattle.stream.specs.Stream.{used}

@@ -5,10 +5,9 @@ use mathlib.Core.List.{List, _∷_}
 use Prim.Native.Nat.{ℕ}
 use Rattle.prefix.specs.declared.Prefix.{Prefix}
 use Rattle.prefix.specs.Prefixes.{Contains}
-use Rattle.cells.specs.Lookup.{lookUp}
+use Rattle.lookup.specs.Lookup.{lookUp}
 use Rattle.records.specs.declared.Update.{Update}
-use Rattle.refusals.specs.Memory.{Lent}
-use Rattle.refusals.proofs.Lending.{IsLent}
+use Rattle.cells.specs.Memory.{Lent, IsLent}
 use Rattle.updates.specs.Calls.{clear}
 use Rattle.history.specs.Costs.{Costs}
 use Rattle.history.specs.History.{History, start, _then_, step, named, memory, report, live, IsAnswer}

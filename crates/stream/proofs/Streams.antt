@@ -13,7 +13,7 @@ use Rattle.records.specs.declared.Reading.{Reading}
 use Rattle.records.specs.Record.{size, readAs, nextSerial}
 use Rattle.records.proofs.Accepted.{readable}
 use Rattle.records.proofs.RoundTrip.{read-alike}
-use Rattle.refusals.specs.Memory.{Lent}
+use Rattle.cells.specs.Memory.{Lent}
 use Rattle.history.specs.History.{History, _then_, step, memory}
 use Rattle.stream.specs.declared.Step.{Step}
 use Rattle.stream.specs.declared.Step.the-variants.{Expects, Refused}

@@ -9,7 +9,7 @@ use lib.Seq.{sets-eq, take-at, drop-append-add, drop-drop}
 use borrow.Rule.Slice.PartAt.{part-to-end}
 use Rattle.prefix.specs.declared.Prefix.{Prefix}
 use Rattle.records.specs.Record.{size, readAs, nextSerial}
-use Rattle.refusals.specs.Memory.{Lent}
+use Rattle.cells.specs.Memory.{Lent}
 use Rattle.updates.specs.Calls.{Outcome}
 use Rattle.history.specs.History.{step}
 use Rattle.stream.specs.declared.Step.{Step}

@@ -10,10 +10,9 @@ use Rattle.ground.specs.Sums.{sum}
 use Rattle.ground.specs.Lists.{differs}
 use Rattle.prefix.specs.declared.Prefix.{Prefix}
 use Rattle.records.specs.declared.Update.{Update}
-use Rattle.records.specs.Record.{size, readAs, nextSerial}
-use Rattle.records.specs.Record.{announce as announceKind, withdraw as withdrawKind}
+use Rattle.records.specs.Record.{size, readAs, nextSerial, announce as announceKind, withdraw as withdrawKind}
 use Rattle.rules.specs.Words.{routeBy}
-use Rattle.refusals.specs.Memory.{Lent}
+use Rattle.cells.specs.Memory.{Lent}
 use Rattle.history.specs.History.{Call, announces, withdraws, re-homes, History, _then_, step}
 use Rattle.stream.specs.declared.Step.{Step}
 use Rattle.stream.specs.declared.Step.the-variants.{Expects, Refused}

@@ -8,16 +8,15 @@ use lib.Dec.{lit≤}
 use lib.ListN.{getD}
 use Rattle.prefix.specs.declared.Prefix.{Prefix}
 use Rattle.prefix.specs.Prefixes.{span, WellFormed, Contains}
-use Rattle.prefix.specs.Price.{blockStart, blocks}
+use Rattle.prefix.specs.Geometry.{blockStart, blockOf, blocks}
 use Rattle.prefix.proofs.Prefixes.{by-range, ends-inside}
-use Rattle.cells.specs.Lookup.{blockOf}
-use Rattle.cells.proofs.Reading.{span-blocks}
+use Rattle.prefix.proofs.Spans.{span-blocks}
 use Rattle.tables.specs.Cellwise.{cellAddress}
 use Rattle.tables.specs.Ready.{Owns, Ready}
 use Rattle.tables.specs.Ranges.{PrefixRun, RunChanged}
 use Rattle.tables.specs.Repaint.{Points}
 use Rattle.tables.proofs.Ranges.{run-cong}
-use Rattle.cells.proofs.Spans as spans
+use Rattle.prefix.proofs.Spans as spans
 use Rattle.tables.proofs.Repaints.{owns}
 
 address-in : (t : Prefix) {owners : List ℕ} {b s : ℕ} → Owns owners b s → (i : ℕ) → i / 256 ≡ s → cellAddress t owners i ≡ blockStart t b + i % 256

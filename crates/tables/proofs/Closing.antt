@@ -10,7 +10,7 @@ use Rattle.ground.proofs.Tests.{eqb?}
 use Rattle.ground.proofs.Lists.{is-where, getD-off, differing-one}
 use Rattle.prefix.specs.declared.Prefix.{Prefix}
 use Rattle.cells.specs.Cells.{empty}
-use Rattle.cells.specs.Lookup.{blockOf}
+use Rattle.prefix.specs.Geometry.{blockOf}
 use Rattle.tables.specs.Cellwise.{firstChanged, longChanged}
 use Rattle.tables.specs.Ranges.{RunChanged}
 use Rattle.tables.specs.Segments.{segmentFilled, Closable, segmentAt, Closed}

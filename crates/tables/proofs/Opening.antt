@@ -9,12 +9,12 @@ use lib.Seq.{getD-set-same}
 use Rattle.ground.proofs.Lists.{differs-other, differing-one}
 use Rattle.prefix.specs.declared.Prefix.{Prefix}
 use Rattle.cells.specs.Cells.{pointTo}
-use Rattle.cells.specs.Lookup.{blockOf}
+use Rattle.prefix.specs.Geometry.{blockOf}
 use Rattle.tables.specs.Cellwise.{cellAddress}
 use Rattle.tables.specs.Ready.{Ready}
 use Rattle.tables.specs.Ranges.{InSegment, PrefixRun, RunChanged, twoValues}
 use Rattle.tables.specs.Segments.{segmentFilled, Openable, firstOpened, ownersOpened, OpenedAndChanged}
-use Rattle.cells.proofs.Spans as spans
+use Rattle.prefix.proofs.Spans as spans
 use Rattle.tables.proofs.Filling.{length-filled, filled-then}
 use Rattle.tables.proofs.Repaints.{run-repainted}
 

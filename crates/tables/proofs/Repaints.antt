@@ -10,16 +10,15 @@ use lib.ListN.{length, getD}
 use Rattle.ground.proofs.Lists.{length-where, where-none, where-same, differing-refl}
 use Rattle.prefix.specs.declared.Prefix.{Prefix}
 use Rattle.prefix.specs.Prefixes.{span, Contains}
-use Rattle.prefix.specs.Price.{blockStart, blocks}
+use Rattle.prefix.specs.Geometry.{blockStart, blockOf, blocks}
 use Rattle.cells.specs.Cells.{pointTo, segmentOf}
-use Rattle.cells.specs.Lookup.{blockOf}
 use Rattle.tables.specs.Cellwise.{cellAddress, firstChanged, longChanged}
 use Rattle.tables.specs.Ready.{Owns, Ready}
 use Rattle.tables.specs.Ranges.{Within, PrefixRun, RunChanged, BlocksReady, BlocksChanged}
 use Rattle.tables.specs.Repaint.{Points, Repainted}
 use Rattle.tables.proofs.Ranges.{inRange?}
 use Rattle.tables.proofs.Segments.{Open, directAmong?, openAmong?, directIn?, openIn?}
-use Rattle.cells.proofs.Spans as spans
+use Rattle.prefix.proofs.Spans as spans
 
 -- the long table keeps its size
 pub length-longs : (t p : Prefix) (f : ℕ → ℕ → ℕ) (first owners long : List ℕ) → length (longChanged t p f first owners long) ≡ length long

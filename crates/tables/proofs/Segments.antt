@@ -8,7 +8,7 @@ use lib.ListN.{getD}
 use Rattle.ground.proofs.Tests.{Decides, leb?, eqb?, and?, not?, iff?}
 use Rattle.prefix.specs.declared.Prefix.{Prefix}
 use Rattle.prefix.specs.Prefixes.{Contains}
-use Rattle.prefix.specs.Price.{blockStart}
+use Rattle.prefix.specs.Geometry.{blockStart}
 use Rattle.prefix.proofs.Prefixes.{contains?}
 use Rattle.cells.specs.Cells.{pointerBit, pointTo, isPointer}
 use Rattle.tables.specs.Cellwise.{isOpenSegment, directIn, openIn}

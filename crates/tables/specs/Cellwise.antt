@@ -8,7 +8,7 @@ use lib.ListN.{getD}
 use Rattle.ground.specs.Lists.{changeWhere}
 use Rattle.prefix.specs.declared.Prefix.{Prefix}
 use Rattle.prefix.specs.Prefixes.{contains}
-use Rattle.prefix.specs.Price.{blockStart}
+use Rattle.prefix.specs.Geometry.{blockStart}
 use Rattle.prefix.specs.Routes.{Route, best}
 use Rattle.cells.specs.Cells.{empty, lengthOf, pointTo, isPointer, cellOf}
 

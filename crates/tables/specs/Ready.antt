@@ -5,10 +5,9 @@ use Prim.Native.Nat.{ℕ, _+_, _*_, _≤_, _<_}
 use mathlib.Core.List.{List}
 use lib.ListN.{length, getD}
 use Rattle.prefix.specs.declared.Prefix.{Prefix}
-use Rattle.prefix.specs.Prefixes.{WellFormed, Encloses, Territory}
-use Rattle.prefix.specs.Price.{blocks}
+use Rattle.prefix.specs.Prefixes.{WellFormed, Encloses}
+use Rattle.prefix.specs.Geometry.{Territory, blockOf, blocks}
 use Rattle.cells.specs.Cells.{pointTo}
-use Rattle.cells.specs.Lookup.{blockOf}
 
 -- segment s is lent, and belongs to the block
 pub record Owns (owners : List ℕ) (block s : ℕ) : Type 0 where

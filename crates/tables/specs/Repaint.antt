@@ -6,7 +6,7 @@ use lib.ListN.{getD}
 use Rattle.ground.specs.Lists.{differing}
 use Rattle.prefix.specs.declared.Prefix.{Prefix}
 use Rattle.cells.specs.Cells.{pointerBit}
-use Rattle.cells.specs.Lookup.{blockOf}
+use Rattle.prefix.specs.Geometry.{blockOf}
 use Rattle.tables.specs.Cellwise.{firstChanged, longChanged}
 use Rattle.tables.specs.Ready.{Ready}
 

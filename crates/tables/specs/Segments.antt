@@ -8,7 +8,7 @@ use Rattle.ground.specs.Lists.{changeWhere, differing}
 use Rattle.prefix.specs.declared.Prefix.{Prefix}
 use Rattle.prefix.specs.Prefixes.{WellFormed, Encloses}
 use Rattle.cells.specs.Cells.{empty, pointerBit, pointTo, segmentOf}
-use Rattle.cells.specs.Lookup.{blockOf}
+use Rattle.prefix.specs.Geometry.{blockOf}
 use Rattle.tables.specs.Cellwise.{firstChanged, longChanged}
 use Rattle.tables.specs.Ready.{Sized, Ready}
 use Rattle.tables.specs.Repaint.{Points}

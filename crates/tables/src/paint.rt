@@ -105,7 +105,7 @@ pub fn paint(
     let length = prefix.length;
     let block = place::block_of(territory, prefix);
     if length <= 24 {
-        let to = block + cells::look::blocks_of(length);
+        let to = block + prefix::geometry::blocks_of(length);
         return paint_blocks(first, long, owners, block, to, new, length);
     }
     let range = place::run_of(first[block], prefix);

@@ -3,7 +3,7 @@ ghost use mathlib.Core.Path.{_≡_};
 ghost use Prim.Native.Nat.{_*_, _<_, _≤_};
 ghost use Rattle.prefix.specs.Prefixes.{span};
 ghost use Rattle.cells.specs.Cells.{pointerBit, segmentOf};
-ghost use Rattle.cells.specs.Lookup.{blockOf};
+ghost use Rattle.prefix.specs.Geometry.{blockOf};
 ghost use Rattle.tables.specs.Ranges.{PrefixRun};
 use cells::cell::Cell;
 use prefix::Prefix;

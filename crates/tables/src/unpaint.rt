@@ -1,7 +1,7 @@
 // Withdrawal's repaint: each cell of a prefix with exactly its length takes the longest match of the rules that are left. That match is kept
 // with the run of addresses that share it, so that the rules are asked again only past the run's end.
 ghost use Prim.Native.Nat.{_+_, _-_, _*_, _^_, _≤_};
-ghost use Rattle.prefix.specs.Price.{blockStart};
+ghost use Rattle.prefix.specs.Geometry.{blockStart};
 ghost use Rattle.rules.specs.Rules.{routes, Listed};
 ghost use Rattle.tables.specs.Cellwise.{unpaintCell};
 ghost use Rattle.tables.specs.Ranges.{Within, BlocksReady};
@@ -174,7 +174,7 @@ pub fn unpaint(
     // The first run is asked for here: with two places that ask, the search stays a call, and the step is small enough to stand in the loops.
     let run = runs::longest(rules, live, prefix.address);
     if length <= 24 {
-        let to = block + cells::look::blocks_of(length);
+        let to = block + prefix::geometry::blocks_of(length);
         let tally = unpaint_blocks(
             first,
             long,

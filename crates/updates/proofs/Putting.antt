@@ -11,23 +11,22 @@ use Rattle.ground.proofs.Tests.{eqb?, passes, says, denies}
 use Rattle.ground.proofs.Cases.{by-lt}
 use Rattle.prefix.specs.declared.Prefix.{Prefix}
 use Rattle.prefix.specs.Prefixes.{WellFormed}
-use Rattle.prefix.specs.Price.{isOpen, blocks, blockStart}
+use Rattle.prefix.specs.Price.{isOpen}
+use Rattle.prefix.specs.Geometry.{blocks, blockStart, blockOf}
 use Rattle.prefix.specs.Routes.{Route, isRoute, with-route}
 use Rattle.prefix.proofs.Best.{isRoute?}
 use Rattle.prefix.proofs.Blocks.{Opens, opened?}
 use Rattle.cells.specs.Cells.{pack, pointerBit, segmentOf}
-use Rattle.cells.specs.Lookup.{blockOf}
 use Rattle.rules.specs.Rules.{routes, isLive, wordsOf, Listed, PlaceIs}
 use Rattle.rules.proofs.Indices.{IsLive, isLive?, listed-within}
-use Rattle.refusals.specs.Memory.{Lent, lowestFree}
+use Rattle.cells.specs.Memory.{Lent, lowestFree}
 use Rattle.refusals.specs.Codes.{noZero, needsSegment, announceCode, reHomeCode}
 use Rattle.refusals.proofs.FreeWords.{lowest-free, all-live}
 use Rattle.refusals.proofs.Refusing.{Passed, needsSegment?, announce-passed, live-passed}
 use Rattle.refusals.proofs.Soundness.{BlockSound}
 use Rattle.tables.specs.Cellwise.{paintCell, firstChanged, longChanged}
 use Rattle.tables.specs.Ready.{Ready}
-use Rattle.cells.proofs.Spans.{some-block}
-use Rattle.cells.proofs.Spans.{opens-own}
+use Rattle.prefix.proofs.Spans.{some-block, opens-own}
 use Rattle.tables.specs.Repaint.{Points, Repaintable, Repainted}
 use Rattle.tables.specs.Segments.{Openable, OpenedAndChanged, firstOpened, ownersOpened, segmentFilled}
 use Rattle.updates.specs.Effects.{repainted, listing, openedAt, opened, announced}

@@ -11,21 +11,21 @@ use Rattle.ground.proofs.Tests.{Decides, ltb?, and?, not?, passes, says}
 use Rattle.ground.proofs.Members.{index-mem}
 use Rattle.prefix.specs.declared.Prefix.{Prefix}
 use Rattle.prefix.specs.Prefixes.{key, wellFormed, WellFormed, Encloses}
-use Rattle.prefix.specs.Price.{isOpen, blockStart}
+use Rattle.prefix.specs.Price.{isOpen}
+use Rattle.prefix.specs.Geometry.{blockStart, blockOf}
 use Rattle.prefix.specs.Routes.{Route, best, without, keep, other, AllRoutes, Ascending}
 use Rattle.prefix.proofs.Prefixes.{wellFormed?, in-range}
 use Rattle.prefix.proofs.Changes.{keep-cases, without-mem, without-routes, without-ascending, without-absent, other?}
 use Rattle.cells.specs.Cells.{empty, segmentOf, cellOf}
-use Rattle.cells.specs.Lookup.{blockOf}
 use Rattle.rules.specs.Words.{routeOf}
 use Rattle.rules.specs.Rules.{live, routes, wordsOf, Formed, Listed, PlaceIs}
 use Rattle.rules.proofs.FormTests.{formed-listed}
 use Rattle.rules.proofs.LiveWords.{live-at}
 use Rattle.rules.proofs.Indices.{IsLive, isLive?, routes-index}
 use Rattle.rules.proofs.RouteWords.{routes-words, words-formed}
-use Rattle.refusals.specs.Memory.{Lent, memory}
+use Rattle.cells.specs.Memory.{Lent, memory}
 use Rattle.refusals.specs.Codes.{withdrawCode}
-use Rattle.cells.proofs.Spans.{aligned}
+use Rattle.prefix.proofs.Spans.{aligned}
 use Rattle.refusals.proofs.Refusing.{live-passed}
 use Rattle.refusals.proofs.Soundness.{true?}
 use Rattle.tables.specs.Cellwise.{unpaintCell}

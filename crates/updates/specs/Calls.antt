@@ -7,7 +7,7 @@ use lib.Dec.{eqb}
 use Rattle.ground.specs.Lists.{differing}
 use Rattle.prefix.specs.declared.Prefix.{Prefix}
 use Rattle.prefix.specs.Routes.{Route}
-use Rattle.refusals.specs.Memory.{Lent}
+use Rattle.cells.specs.Memory.{Lent}
 use Rattle.refusals.specs.Codes.{announceCode, withdrawCode, reHomeCode, clearCode}
 use Rattle.updates.specs.declared.Report.{Report}
 use Rattle.updates.specs.Effects.{cleared, announced, withdrawn}

@@ -5,12 +5,12 @@ use mathlib.Core.List.{List}
 use lib.Dec.{ltb}
 use lib.ListN.{length, getD, set, replicate}
 use Rattle.prefix.specs.declared.Prefix.{Prefix}
-use Rattle.prefix.specs.Price.{isOpen, blockStart}
+use Rattle.prefix.specs.Price.{isOpen}
+use Rattle.prefix.specs.Geometry.{blockStart, blockOf}
 use Rattle.prefix.specs.Routes.{Route, best, with-route, without}
 use Rattle.cells.specs.Cells.{empty, pack, pointTo, segmentOf, cellOf}
-use Rattle.cells.specs.Lookup.{blockOf}
 use Rattle.rules.specs.Rules.{routes, wordsOf}
-use Rattle.refusals.specs.Memory.{Lent, lowestFree}
+use Rattle.cells.specs.Memory.{Lent, lowestFree}
 use Rattle.refusals.specs.Codes.{needsSegment}
 use Rattle.tables.specs.Cellwise.{paintCell, unpaintCell, firstChanged, longChanged}
 use Rattle.tables.specs.Segments.{segmentFilled}

@@ -6,11 +6,12 @@ use mathlib.Core.List.{List}
 use lib.ListN.{length}
 use Rattle.ground.specs.Lists.{differing}
 use Rattle.prefix.specs.declared.Prefix.{Prefix}
-use Rattle.prefix.specs.Prefixes.{Encloses, Territory}
+use Rattle.prefix.specs.Prefixes.{Encloses}
+use Rattle.prefix.specs.Geometry.{Territory}
 use Rattle.prefix.specs.Routes.{Route, IsRoute}
 use Rattle.cells.specs.Cells.{pack}
 use Rattle.rules.specs.Rules.{Formed, Listed, PlaceIs}
-use Rattle.refusals.specs.Memory.{Lent}
+use Rattle.cells.specs.Memory.{Lent}
 use Rattle.refusals.specs.Codes.{noZero, needsSegment}
 use Rattle.tables.specs.Cellwise.{paintCell, unpaintCell}
 use Rattle.tables.specs.Ready.{Ready}

@@ -1,6 +1,6 @@
 // The calls that write: clear, announce, withdraw and re-home, for any numbers and any lent memory. Each tests first, in the paper's order,
 // and writes only when nothing refuses.
-ghost use Rattle.refusals.specs.Memory.{memory};
+ghost use Rattle.cells.specs.Memory.{memory};
 ghost use Rattle.rules.specs.Words.{routeBy};
 ghost use Rattle.updates.specs.Calls.{announce, withdraw, reHome, clear, Meets};
 

@@ -1,6 +1,6 @@
 // Announce and re-home, once nothing refuses: the cells of the prefix are painted, in a segment that is opened if need be, and the route
 // is put among the rules.
-ghost use Rattle.refusals.specs.Memory.{memory};
+ghost use Rattle.cells.specs.Memory.{memory};
 ghost use Rattle.rules.specs.Words.{routeBy};
 ghost use Rattle.updates.specs.Calls.{accepted, Meets};
 ghost use Rattle.updates.specs.Effects.{announced};

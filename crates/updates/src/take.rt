@@ -2,9 +2,8 @@
 // then its cells are repainted, or its segment closes.
 ghost use mathlib.Core.Path.{_≡_};
 ghost use Rattle.rules.specs.Rules.{routes, Listed};
-ghost use Rattle.refusals.specs.Memory.{memory};
-ghost use Rattle.prefix.specs.Price.{blockStart};
-ghost use Rattle.cells.specs.Lookup.{blockOf};
+ghost use Rattle.cells.specs.Memory.{memory};
+ghost use Rattle.prefix.specs.Geometry.{blockStart, blockOf};
 ghost use Rattle.tables.specs.Repaint.{Repaintable};
 ghost use Rattle.updates.specs.Calls.{accepted, Meets};
 ghost use Rattle.updates.specs.Effects.{closes, withdrawn};

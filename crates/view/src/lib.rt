@@ -1,8 +1,8 @@
 // Look up as a view: it carries both lent tables and the territory, and answers address after address. The method takes the view apart
 // and calls the look up on slices; who has slices and wants no view calls `look_in`.
 ghost use mathlib.Core.Path.{_≡_};
-ghost use Rattle.cells.specs.Lookup.{lookUp};
-use cells::look::Answer;
+ghost use Rattle.lookup.specs.Lookup.{lookUp};
+use lookup::look::Answer;
 use prefix::Prefix;
 
 // Both tables, to be read only, and the territory.
@@ -23,11 +23,11 @@ pub fn view_of<'a, 'b>(first: &'a [u32], long: &'b [u32], territory: Prefix) -> 
 }
 
 impl<'a, 'b> View<'a, 'b> {
-    // The answer to an address, as `cells::look::look_up` gives it.
+    // The answer to an address, as `lookup::look::look_up` gives it.
     pub fn look_up(self, address: u32) -> Answer
         ensures { λ r. ⌜ r ≡ lookUp (now (self .entry .first)) (now (self .entry .long)) (self .entry .territory) address ⌝ }
     {
-        cells::look::look_up(self.first, self.long, self.territory, address)
+        lookup::look::look_up(self.first, self.long, self.territory, address)
     }
 }
 

@@ -5,7 +5,7 @@ use native.Mathlib.Omega.{arith}
 use lib.ListN.{length}
 use lib.Pow.{pow-mono}
 use denote.Ref.{now}
-use Rattle.cells.proofs.Reading.{LentToRead}
+use Rattle.cells.proofs.Lending.{LentToRead}
 use Rattle.bulk.proofs.Answering.{lent, not-lent, refuses, answered, places-lent, passes-all}
 use borrow.Author.Needs.{needs}
 use Rattle.bulk.proofs.look_up_all.Statement.{statement}

@@ -5,7 +5,7 @@ use native.Mathlib.Omega.{arith}
 use denote.Ref.{now}
 use Rattle.ground.proofs.Tests.{leb?, cond-on, cond-off}
 use Rattle.cells.specs.Cells.{pointerBit}
-use Rattle.cells.proofs.Answers.{by-low}
+use Rattle.lookup.proofs.Answers.{by-low}
 use Rattle.bulk.specs.Passes.{settled}
 use borrow.Author.Needs.{needs}
 use Rattle.bulk.proofs.settle.Statement.{statement}

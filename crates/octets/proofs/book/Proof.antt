@@ -3,8 +3,8 @@ use mathlib.Core.Path.{ap}
 use native.Mathlib.Omega.{arith}
 use borrow.Author.Needs.{needs}
 use denote.Ref.{now}
-use Rattle.cells.specs.declared.look.Answer.{Answer}
-use Rattle.cells.proofs.Answers.{small-look}
+use Rattle.lookup.specs.declared.look.Answer.{Answer}
+use Rattle.lookup.proofs.Answers.{small-look}
 use Rattle.octets.proofs.Entering.{wrong-words, booked}
 use Rattle.octets.proofs.book.Statement.{statement}
 use Rattle.octets.proofs.book.Tie as tie

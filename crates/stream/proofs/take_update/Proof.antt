@@ -1,7 +1,8 @@
 -- `take_update` meets its contract: each kind's law of `Calling`. Assumes nothing.
 use mathlib.Core.Path.{_≡_}
 use native.Mathlib.Omega.{arith}
-use Rattle.refusals.specs.Memory.{Lent, memory}
+use Rattle.cells.specs.Memory.{Lent}
+use Rattle.history.specs.History.{memory}
 use Rattle.stream.proofs.Calling.{announcing, withdrawing, re-homing}
 use borrow.Author.Needs.{needs}
 use Rattle.stream.proofs.take_update.Statement.{statement}

@@ -1,6 +1,6 @@
 -- `clear` meets its contract: a refusal writes nothing, and else each slice is set to 0. Assumes nothing.
 use mathlib.Core.Path.{_≡_, sym, _∙_}
-use Rattle.refusals.specs.Memory.{Lent, memory}
+use Rattle.cells.specs.Memory.{Lent, memory}
 use Rattle.updates.specs.Effects.{cleared}
 use Rattle.updates.proofs.Outcomes.{clear-refused, clear-accepted}
 use native.Mathlib.Omega.{arith}

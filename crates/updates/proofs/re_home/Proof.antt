@@ -1,6 +1,6 @@
 -- `re_home` meets its contract: a refusal writes nothing, and else the route takes the place of the one of its prefix. Assumes nothing.
 use mathlib.Core.Path.{_≡_, sym, _∙_}
-use Rattle.refusals.specs.Memory.{Lent, memory}
+use Rattle.cells.specs.Memory.{Lent, memory}
 use Rattle.rules.specs.Words.{routeBy}
 use Rattle.updates.specs.Effects.{announced}
 use Rattle.updates.specs.Calls.{reHome}

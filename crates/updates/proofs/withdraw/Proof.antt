@@ -1,6 +1,6 @@
 -- `withdraw` meets its contract: a refusal writes nothing, and else the prefix is taken out. Assumes nothing.
 use mathlib.Core.Path.{_≡_, sym, _∙_}
-use Rattle.refusals.specs.Memory.{Lent, memory}
+use Rattle.cells.specs.Memory.{Lent, memory}
 use Rattle.updates.specs.Effects.{withdrawn}
 use Rattle.updates.specs.Calls.{withdraw}
 use Rattle.updates.proofs.Taking.{withdraw-takable}

@@ -40,10 +40,10 @@ use denote.Triple.Clauses.{ensured, lasts}
 use Rattle.prefix.specs.declared.Prefix.{Prefix}
 use Rattle.prefix.proofs.Prefix as P
 use Rattle.prefix.proofs.Prefix.Laws as P′
-use Rattle.cells.specs.Lookup.{lookUp}
-use Rattle.cells.specs.declared.look.Answer.{Answer}
-use Rattle.cells.proofs.look.Answer as S
-use Rattle.cells.proofs.look.Answer.Laws as S′
+use Rattle.lookup.specs.Lookup.{lookUp}
+use Rattle.lookup.specs.declared.look.Answer.{Answer}
+use Rattle.lookup.proofs.look.Answer as S
+use Rattle.lookup.proofs.look.Answer.Laws as S′
 use Rattle.view.specs.declared.View.{View}
 use Rattle.view.proofs.View as T
 use Rattle.view.proofs.View.Laws as T′

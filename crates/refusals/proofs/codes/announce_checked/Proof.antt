@@ -7,7 +7,7 @@ use Rattle.ground.proofs.Tests.{says}
 use Rattle.prefix.specs.Routes.{Route, isRoute}
 use Rattle.prefix.proofs.Best.{isRoute?}
 use Rattle.rules.specs.Words.{routeBy}
-use Rattle.refusals.specs.Memory.{Lent, memory}
+use Rattle.cells.specs.Memory.{Lent, memory}
 use Rattle.refusals.specs.Codes.{needsSegment, tested, CheckedIs}
 use Rattle.refusals.proofs.Refusing.{block-lent, refused-is, checked-as, let-pass, announce-stays, announce-6, announce-7, announce-0}
 use borrow.Author.Needs.{needs}

@@ -1,6 +1,6 @@
 -- `codes::live_tests` meets its contract: what the tests answered stands, unless all let pass and the prefix is not live. Assumes nothing.
 use native.Mathlib.Omega.{arith}
-use Rattle.refusals.specs.Memory.{Lent, memory}
+use Rattle.cells.specs.Memory.{Lent, memory}
 use Rattle.refusals.proofs.Refusing.{refused-is, stays, not-live, is-live}
 use borrow.Author.Needs.{needs}
 use Rattle.refusals.proofs.codes.live_tests.Statement.{statement}

@@ -6,8 +6,8 @@ use native.Mathlib.Omega.{arith}
 use lib.ListN.{getD}
 use Rattle.ground.proofs.Tests.{ltb?, iff?, stops, same-test}
 use Rattle.cells.specs.Cells.{pointerBit}
-use Rattle.cells.specs.Lookup.{blockOf}
-use Rattle.refusals.specs.Memory.{memory}
+use Rattle.prefix.specs.Geometry.{blockOf}
+use Rattle.cells.specs.Memory.{memory}
 use Rattle.refusals.specs.Codes.{needsSegment}
 use Rattle.refusals.proofs.Refusing.{needsSegment?}
 use borrow.Author.Needs.{needs}

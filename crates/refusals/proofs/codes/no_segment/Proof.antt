@@ -6,7 +6,7 @@ use lib.Dec.{eqb}
 use lib.ListN.{length}
 use borrow.Author.Tests.{not-true, not-false}
 use Rattle.ground.proofs.Tests.{eqb?, same-test}
-use Rattle.refusals.specs.Memory.{lowestFree}
+use Rattle.cells.specs.Memory.{lowestFree}
 use Rattle.refusals.specs.Codes.{noZero}
 use Rattle.refusals.proofs.FreeWords.{noZero?}
 use borrow.Author.Needs.{needs}

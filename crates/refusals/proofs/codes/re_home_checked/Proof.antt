@@ -5,7 +5,7 @@ use Rattle.ground.proofs.Tests.{says}
 use Rattle.prefix.proofs.Best.{isRoute?}
 use Rattle.rules.specs.Words.{routeBy}
 use Rattle.rules.specs.Rules.{routes, isLive}
-use Rattle.refusals.specs.Memory.{Lent, memory}
+use Rattle.cells.specs.Memory.{Lent, memory}
 use Rattle.refusals.specs.Codes.{tested, reHomeCode}
 use Rattle.refusals.proofs.Refusing.{checked-as}
 use borrow.Author.Needs.{needs}

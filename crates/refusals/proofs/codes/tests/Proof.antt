@@ -8,8 +8,8 @@ use Rattle.prefix.specs.Prefixes.{Encloses}
 use Rattle.prefix.proofs.Prefixes.{encloses?}
 use Rattle.rules.specs.Rules.{routes, Formed, Listed}
 use Rattle.rules.proofs.FormTests.{formed?, formed-listed}
-use Rattle.refusals.specs.Memory.{Lent, memory}
-use Rattle.refusals.proofs.Lending.{IsLent, isLent?}
+use Rattle.cells.specs.Memory.{Lent, IsLent, memory}
+use Rattle.cells.proofs.Lending.{isLent?}
 use Rattle.refusals.proofs.Soundness.{blocksSound?}
 use Rattle.refusals.proofs.Refusing.{stops-at-1, stops-at-2, stops-at-3, stops-at-4, goes-on, refused-is}
 use borrow.Author.Needs.{needs}

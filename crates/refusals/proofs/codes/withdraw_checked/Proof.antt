@@ -4,7 +4,7 @@ use mathlib.Core.Bool.{Bool, cond, not}
 use Rattle.ground.proofs.Tests.{says}
 use Rattle.prefix.proofs.Prefixes.{wellFormed?}
 use Rattle.rules.specs.Rules.{routes, isLive}
-use Rattle.refusals.specs.Memory.{Lent, memory}
+use Rattle.cells.specs.Memory.{Lent, memory}
 use Rattle.refusals.specs.Codes.{tested, withdrawCode}
 use Rattle.refusals.proofs.Refusing.{checked-as}
 use borrow.Author.Needs.{needs}

@@ -6,7 +6,7 @@ use native.Mathlib.Omega.{arith}
 use Rattle.prefix.proofs.Prefixes.{in-range}
 use Rattle.rules.specs.Rules.{routes, PositionIs}
 use Rattle.refusals.proofs.Walking.{run-of}
-use Rattle.cells.proofs.Spans.{aligned, few-blocks, blocks-inside}
+use Rattle.prefix.proofs.Spans.{aligned, few-blocks, blocks-inside}
 use borrow.Author.Needs.{needs}
 use Rattle.refusals.proofs.damage.blocks_sound.Statement.{statement}
 use Rattle.refusals.proofs.damage.blocks_sound.Tie as tie

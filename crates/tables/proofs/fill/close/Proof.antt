@@ -7,7 +7,7 @@ use denote.Ref.{now}
 use borrow.Author.Needs.{needs}
 use Rattle.ground.proofs.Lists.{differs-small}
 use Rattle.cells.specs.Cells.{segmentOf}
-use Rattle.cells.specs.Lookup.{blockOf}
+use Rattle.prefix.specs.Geometry.{blockOf}
 use Rattle.tables.specs.Segments.{segmentAt}
 use Rattle.tables.proofs.Ranges.{run-small}
 use Rattle.tables.proofs.Repaints.{past-base, block-lent}

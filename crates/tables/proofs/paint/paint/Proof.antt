@@ -6,7 +6,7 @@ use native.Mathlib.Omega.{arith}
 use lib.ListN.{getD}
 use denote.Ref.{now}
 use borrow.Author.Needs.{needs}
-use Rattle.cells.specs.Lookup.{blockOf}
+use Rattle.prefix.specs.Geometry.{blockOf}
 use Rattle.tables.specs.Ranges.{BlocksReady}
 use Rattle.tables.proofs.Repaints.{past-base, block-lent, blocks-ready, blocks-repainted, run-within, run-repainted}
 use Rattle.tables.proofs.paint.paint.Statement.{statement}

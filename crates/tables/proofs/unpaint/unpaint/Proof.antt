@@ -6,7 +6,7 @@ use native.Mathlib.Omega.{arith}
 use lib.ListN.{getD}
 use denote.Ref.{now}
 use borrow.Author.Needs.{needs}
-use Rattle.cells.specs.Lookup.{blockOf}
+use Rattle.prefix.specs.Geometry.{blockOf}
 use Rattle.rules.specs.Rules.{routes}
 use Rattle.tables.specs.Cellwise.{unpaintCell}
 use Rattle.tables.specs.Ranges.{BlocksReady}

@@ -5,7 +5,7 @@ use native.Mathlib.Nat.{le-antisymm}
 use native.Mathlib.Omega.{arith}
 use denote.Ref.{now}
 use borrow.Author.Needs.{needs}
-use Rattle.prefix.specs.Price.{blockStart}
+use Rattle.prefix.specs.Geometry.{blockStart}
 use Rattle.rules.specs.Rules.{routes}
 use Rattle.tables.specs.Cellwise.{unpaintCell, cellAddress}
 use Rattle.tables.specs.Ranges.{BlocksChanged}

@@ -2,7 +2,7 @@
 -- the cells are painted where they stand. Assumes nothing.
 use mathlib.Core.Path.{_≡_, sym, _∙_}
 use native.Mathlib.Omega.{arith}
-use Rattle.refusals.specs.Memory.{Lent, memory}
+use Rattle.cells.specs.Memory.{Lent, memory}
 use Rattle.rules.specs.Words.{routeBy}
 use Rattle.prefix.specs.Routes.{Route}
 use Rattle.refusals.specs.Codes.{needsSegment}

@@ -1,7 +1,7 @@
 -- `put::put_route` meets its contract: the tables are painted, and the route is put at its place among the rules, which painting leaves
 -- as they are. Assumes nothing.
 use native.Mathlib.Omega.{arith}
-use Rattle.refusals.specs.Memory.{Lent, memory}
+use Rattle.cells.specs.Memory.{Lent, memory}
 use Rattle.rules.specs.Words.{routeBy}
 use Rattle.updates.proofs.Putting.{put-meets}
 use borrow.Author.Needs.{needs}

@@ -2,7 +2,7 @@
 -- Assumes nothing.
 use mathlib.Core.Path.{ap, _∙_}
 use native.Mathlib.Omega.{arith}
-use Rattle.refusals.specs.Memory.{Lent, memory}
+use Rattle.cells.specs.Memory.{Lent, memory}
 use Rattle.rules.specs.Rules.{routes}
 use Rattle.updates.proofs.Taking.{left-count, left-listed, left-routes, take-meets, placed}
 use borrow.Author.Needs.{needs}

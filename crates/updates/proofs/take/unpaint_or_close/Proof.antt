@@ -4,7 +4,7 @@ use mathlib.Core.Path.{sym, ap, _∙_}
 use native.Mathlib.Omega.{arith}
 use Rattle.prefix.specs.Routes.{best}
 use Rattle.cells.specs.Cells.{cellOf}
-use Rattle.refusals.specs.Memory.{Lent, memory}
+use Rattle.cells.specs.Memory.{Lent, memory}
 use Rattle.rules.specs.Rules.{routes}
 use Rattle.updates.proofs.Taking.{blocked, closable, unpainted-closed, unpainted-open}
 use borrow.Author.Needs.{needs}

@@ -1,4 +1,4 @@
--- `view::View::look_up`, a method with `self`, meets its contract: a walk of its MIR, by hand. The view is taken apart, and `cells::look::look_up` is called on the slices and the territory. All that the proof knows of `cells::look::look_up` is that it meets its contract.
+-- `view::View::look_up`, a method with `self`, meets its contract: a walk of its MIR, by hand. The view is taken apart, and `lookup::look::look_up` is called on the slices and the territory. All that the proof knows of `lookup::look::look_up` is that it meets its contract.
 -- The struct is Copy: what it owns is had twice, one copy is kept whole for the exit, and of the other what the slices own goes to the callee, beside the lifetimes' tokens, which come back.
 -- Assumes nothing.
 use mathlib.Core.Path.{_≡_, refl}
@@ -43,17 +43,17 @@ use denote.Exit.{yes}
 use denote.Triple.Clauses.{ensured, lasts}
 use Rattle.prefix.proofs.Prefix as P
 use Rattle.prefix.proofs.Prefix.Laws as P′
-use Rattle.cells.specs.Lookup.{lookUp}
-use Rattle.cells.specs.declared.look.Answer.{Answer}
-use Rattle.cells.proofs.look.Answer as S
-use Rattle.cells.proofs.look.Answer.Laws as S′
+use Rattle.lookup.specs.Lookup.{lookUp}
+use Rattle.lookup.specs.declared.look.Answer.{Answer}
+use Rattle.lookup.proofs.look.Answer as S
+use Rattle.lookup.proofs.look.Answer.Laws as S′
 use Rattle.view.specs.declared.View.{View}
 use Rattle.view.proofs.View as T
 use Rattle.view.proofs.View.Laws as T′
-use Rattle.cells.proofs.look.look_up as one
-use Rattle.cells.proofs.look.look_up.Symbol as one-def
-use Rattle.cells.proofs.look.look_up.Symbol.{name as #cells·look-up}
-use Rattle.cells.proofs.look.look_up.Met as one-thm
+use Rattle.lookup.proofs.look.look_up as one
+use Rattle.lookup.proofs.look.look_up.Symbol as one-def
+use Rattle.lookup.proofs.look.look_up.Symbol.{name as #cells·look-up}
+use Rattle.lookup.proofs.look.look_up.Met as one-thm
 use Rattle.view.proofs.View.look_up.Key.{name as #view·look-up}
 use Rattle.view.proofs.View.look_up as look-up
 use Rattle.view.proofs.View.look_up.Statement as stated
@@ -176,4 +176,4 @@ look-up-spec 𝓤 H 𝓜 𝓖 𝓡 =
     entered 𝓤 H (tripleOf 𝓤 H (𝓖 .A) look-up.signature (look-up.spec 𝓤 H (𝓖 .A) (𝓜 .mem) (𝓡 .run)))
     (tables 𝓤 H 𝓜 𝓡 code.env .C) (tables 𝓤 H 𝓜 𝓡 code.env .Λ) #view·look-up code.function (code.unfolded 𝓤 H 𝓜 𝓡)
     (look-up-meets 𝓤 H (𝓖 .A) (givenOf 𝓤 H 𝓜 𝓖) (𝓜 .mem) (𝓡 .run) (tablesOf 𝓤 H 𝓜 (tables 𝓤 H 𝓜 𝓡 code.env))
-    (cited 𝓤 H (One 𝓤 H (𝓖 .A) (𝓜 .mem) (𝓡 .run)) 𝓜 𝓡 code.env #cells·look-up one-def.routine code.calls-cells·look·look-up (one-thm.met 𝓤 H 𝓜 𝓖 𝓡)))
+    (cited 𝓤 H (One 𝓤 H (𝓖 .A) (𝓜 .mem) (𝓡 .run)) 𝓜 𝓡 code.env #cells·look-up one-def.routine code.calls-lookup·look·look-up (one-thm.met 𝓤 H 𝓜 𝓖 𝓡)))

@@ -1,0 +1,69 @@
+-- Where a call may read: what is lent, the territory, and the block of an address in it. Assumes nothing.
+use mathlib.Core.Path.{_≡_, refl, sym, ap, subst, _∙_}
+use mathlib.Core.Bool.{Bool, true, false, cond}
+use Prim.Native.Nat.{ℕ, _+_, _-_, _*_, _%_, _^_, _≤_, _<_}
+use native.Mathlib.Nat.{mod-lt, mod-le}
+use native.Mathlib.Omega.{arith}
+use lib.Dec.{lit≤}
+use lib.Pow.{pow-add, pow-pos}
+use Rattle.ground.proofs.Tests.{Decides, holds, fails, leb?, eqb?, and?, iff?, cond-on}
+use Rattle.cells.proofs.Lending.{LentToRead, lentToRead?}
+use Rattle.prefix.specs.declared.Prefix.{Prefix}
+use Rattle.prefix.specs.Prefixes.{span, top, clearedOf, contains, WellFormed, Contains}
+use Rattle.prefix.specs.Geometry.{Territory, blocks, blockOf}
+use Rattle.prefix.proofs.Prefixes.{contains?, kept, address-of, in-range, by-range}
+use Rattle.prefix.proofs.Spans.{isTerritory?, block-inside}
+use Rattle.cells.specs.Memory.{lentToRead}
+use Rattle.lookup.specs.Lookup.{standingOf}
+
+-- ---- the refusal that comes before any cell is read
+
+-- a call may read: what is lent is right, and the address is in the territory
+pub record Stands (first long : ℕ) (t : Prefix) (a : ℕ) : Type 0 where
+  pub lent : LentToRead first long t
+  pub inside : Contains t a
+
+module _ {first long : ℕ} {t : Prefix} {a : ℕ} (s : Stands first long t a) where
+  pub past-base : t .address ≤ a
+  past-base = in-range (s .lent .territory .formed) (s .inside) .0
+
+  -- the first table has a cell for the block of the address
+  pub block-lent : blockOf t a < first
+  block-lent = omega (arith, block-inside (s .lent .territory) (s .inside), s .lent .a-cell-a-block)
+
+-- the number of the refusal, by the two tests
+abbrev number : Bool → Bool → ℕ
+number lent inside = cond lent (cond inside 0 3) 1
+
+pub stands : (first long : ℕ) (t : Prefix) (a : ℕ) → standingOf first long t a ≡ 0 → Stands first long t a
+unfolding standingOf
+stands first long t a = go (lentToRead? first long t) (contains? t a)
+  where
+    go : {x y : Bool} → Decides (LentToRead first long t) x → Decides (Contains t a) y → number x y ≡ 0 → Stands first long t a
+    go (holds l) (holds c) e = record { lent = l; inside = c }
+    go (holds l) (fails n) e = absurd (omega arith)
+    go (fails n) d e = absurd (omega arith)
+
+pub small-standing : (first long : ℕ) (t : Prefix) (a : ℕ) → standingOf first long t a ≤ 3
+unfolding standingOf
+small-standing first long t a = go (lentToRead first long t) (contains t a)
+  where
+    go : (x y : Bool) → number x y ≤ 3
+    go true true = lit≤ tt
+    go true false = lit≤ tt
+    go false y = lit≤ tt
+
+-- an answer that is x where the call may read, and is made of the refusal's number where it may not
+module _ {A : Type 0} (f : ℕ → A) (first long : ℕ) (t : Prefix) (a : ℕ) (x : A) where
+  pub goes-on : Stands first long t a → x ≡ cond (lentToRead first long t) (cond (contains t a) x (f 3)) (f 1)
+  goes-on s = sym (cond-on _ _ (lentToRead? first long t) (s .lent) ∙ cond-on _ _ (contains? t a) (s .inside))
+
+  pub stops-at : (code : ℕ) → code ≡ standingOf first long t a → (code ≡ 0 → ⊥)
+      → f code ≡ cond (lentToRead first long t) (cond (contains t a) x (f 3)) (f 1)
+  unfolding standingOf
+  stops-at code e n = ap f e ∙ go (lentToRead first long t) (contains t a) (λ z. n (e ∙ z))
+    where
+      go : (y z : Bool) → (number y z ≡ 0 → ⊥) → f (number y z) ≡ cond y (cond z x (f 3)) (f 1)
+      go true true m = absurd (m refl)
+      go true false m = refl
+      go false z m = refl

@@ -1,0 +1,94 @@
+-- `look::standing` meets its contract: each test that fails is one that the lent memory or the address had to pass. Assumes nothing.
+use mathlib.Core.Path.{sym, _∙_}
+use native.Mathlib.Nat.{mod-le}
+use native.Mathlib.Omega.{arith}
+use Rattle.ground.proofs.Tests.{cond-on, cond-off}
+use Rattle.prefix.specs.Prefixes.{span}
+use Rattle.lookup.specs.Lookup.{standingOf}
+use Rattle.cells.proofs.Lending.{LentToRead, lentToRead?}
+use Rattle.prefix.proofs.Spans.{cleared?}
+use borrow.Author.Needs.{needs}
+use Rattle.lookup.proofs.look.standing.Statement.{statement}
+use Rattle.lookup.proofs.look.standing.Tie as tie
+
+returns : tie.Need-returns
+unfolding standingOf
+returns c = let s = c .before .args in sym (cond-off _ _ (lentToRead? (s .first) (s .long) (s .territory)) (λ l. omega (arith, l .territory .wide)))
+
+cleared-requires : tie.Need-cleared-requires
+cleared-requires c κs = search needs
+
+returns-2 : tie.Need-returns-2
+unfolding standingOf
+returns-2 c =
+    let s = c .before .before .before .args in
+    sym (cond-off _ _ (lentToRead? (s .first) (s .long) (s .territory)) (λ l. c .if2 .taken (omega (arith, l .territory .formed .clear))))
+
+blocks-of-requires : tie.Need-blocks-of-requires
+blocks-of-requires c κs = search needs
+
+returns-3 : tie.Need-returns-3
+unfolding standingOf
+returns-3 c =
+    let s = c .before .before .before .before .before .args in
+    sym (cond-off _ _ (lentToRead? (s .first) (s .long) (s .territory)) (λ l. c .if3 .taken (omega (arith, l .a-cell-a-block))))
+
+returns-4 : tie.Need-returns-4
+unfolding standingOf
+returns-4 c =
+    let s = c .before .before .before .before .before .before .args in
+    sym (cond-off _ _ (lentToRead? (s .first) (s .long) (s .territory)) (λ l. c .if4 .taken (l .whole-segments)))
+
+returns-5 : tie.Need-returns-5
+unfolding standingOf
+returns-5 c =
+    let s = c .before .before .before .before .before .before .before .args in
+    sym (cond-off _ _ (lentToRead? (s .first) (s .long) (s .territory)) (λ l. omega (arith, l .not-too-many)))
+
+cleared-requires-2 : tie.Need-cleared-requires-2
+cleared-requires-2 c κs = search needs
+
+-- past the first five tests, what is lent is right
+lent : (c : tie.Else5) → let s = c .before .before .before .before .before .before .before .args in LentToRead (s .first) (s .long) (s .territory)
+lent c =
+    let s = c .before .before .before .before .before .before .before .args in
+    record {
+      territory = record {
+        wide = omega arith;
+        formed = record { short = omega arith; clear = omega (arith, mod-le (s .territory .address) (span (s .territory .length))) };
+      };
+      a-cell-a-block = omega arith;
+      whole-segments = omega arith;
+      not-too-many = omega arith;
+    }
+
+returns-6 : tie.Need-returns-6
+unfolding standingOf
+returns-6 c =
+    let s = c .before .before .before .before .before .before .before .before .before .args in
+    let l = lent (c .before .before) in
+    sym (cond-on _ _ (lentToRead? (s .first) (s .long) (s .territory)) l
+    ∙ cond-off _ _ (cleared? (s .address) (l .territory .formed)) (λ e. c .if6 .taken (omega arith)))
+
+returns-7 : tie.Need-returns-7
+unfolding standingOf
+returns-7 c =
+    let s = c .before .before .before .before .before .before .before .before .before .args in
+    let l = lent (c .before .before) in
+    sym (cond-on _ _ (lentToRead? (s .first) (s .long) (s .territory)) l
+    ∙ cond-on _ _ (cleared? (s .address) (l .territory .formed)) (omega arith))
+
+pub standing-spec : {M : Type 1} → statement M
+standing-spec =
+    tie.close
+    (tie.spec
+    returns
+    cleared-requires
+    returns-2
+    blocks-of-requires
+    returns-3
+    returns-4
+    returns-5
+    cleared-requires-2
+    returns-6
+    returns-7)

@@ -1,0 +1,48 @@
+-- What look up answers, for any numbers and any words: refusals 1, 3, 4 and 8 in this order, each under exactly its condition.
+-- Assumes nothing.
+use Prim.Native.Nat.{ℕ, _+_, _-_, _*_, _/_, _%_}
+use mathlib.Core.Bool.{Bool, cond, _&&_}
+use mathlib.Core.List.{List}
+use lib.Dec.{leb, ltb, eqb}
+use lib.ListN.{length, getD}
+use Rattle.prefix.specs.declared.Prefix.{Prefix}
+use Rattle.cells.specs.Memory.{lentToRead}
+use Rattle.prefix.specs.Prefixes.{contains}
+use Rattle.prefix.specs.Geometry.{isTerritory, blocks, blockOf}
+use Rattle.lookup.specs.declared.look.Answer.{Answer}
+use Rattle.cells.specs.Cells.{empty, hopOf, isDirect, isPointer, segmentOf}
+
+-- a refusal has no hop
+abbrev pub refused : ℕ → Answer
+refused code = record { code = code; hop = 0 }
+
+abbrev pub found : ℕ → Answer
+found hop = record { code = 0; hop = hop }
+
+-- the number of the refusal that comes before any cell is read, or 0
+unfoldable pub standingOf : ℕ → ℕ → Prefix → ℕ → ℕ
+standingOf first long t a = cond (lentToRead first long t) (cond (contains t a) 0 3) 1
+
+-- what the deciding cell says: 0 is no route, a direct cell its hop, and anything else is damage
+abbrev pub directOrDamage : ℕ → ℕ → Answer
+directOrDamage longest cell = cond (isDirect longest cell) (found (hopOf cell)) (refused 4)
+
+unfoldable pub verdictOf : ℕ → ℕ → Answer
+verdictOf longest cell = cond (eqb cell empty) (refused 8) (directOrDamage longest cell)
+
+-- what a cell of the first table says: a pointer hands on to the cell at `low` of its segment, if that is lent; any other decides
+unfoldable pub saysOf : List ℕ → ℕ → ℕ → Answer
+saysOf long low cell =
+    cond (isPointer cell)
+    (cond (ltb (segmentOf cell) (length long / 256)) (verdictOf 32 (getD long (segmentOf cell * 256 + low) 0)) (refused 4))
+    (verdictOf 24 cell)
+
+unfoldable pub lookUp : List ℕ → List ℕ → Prefix → ℕ → Answer
+lookUp first long t a =
+    cond (lentToRead (length first) (length long) t)
+    (cond (contains t a) (saysOf long (a % 256) (getD first (blockOf t a) 0)) (refused 3))
+    (refused 1)
+
+-- the answer as one number
+abbrev pub packed : Answer → ℕ
+packed answer = answer .code * 65536 + answer .hop

@@ -1,0 +1,43 @@
+-- What show answers: a number, and a part of one of the two lent tables. Assumes nothing.
+use Prim.Native.Nat.{ℕ, _+_, _*_, _/_}
+use mathlib.Core.Bool.{cond, _&&_}
+use mathlib.Core.List.{List}
+use lib.Dec.{leb, eqb}
+use lib.ListN.{length, getD, take, drop}
+use denote.Ref.{RefT}
+use Rattle.prefix.specs.declared.Prefix.{Prefix}
+use Rattle.prefix.specs.Prefixes.{contains}
+use Rattle.cells.specs.Cells.{isPointer, segmentOf}
+use Rattle.cells.specs.Memory.{lentToRead}
+use Rattle.prefix.specs.Geometry.{blockOf}
+
+-- the cell of the first table for the block that holds the address
+abbrev pub firstCell : List ℕ → Prefix → ℕ → ℕ
+firstCell first t a = getD first (blockOf t a) 0
+
+unfoldable pub showCode : List ℕ → List ℕ → Prefix → ℕ → ℕ
+showCode first long t a =
+    cond (lentToRead (length first) (length long) t)
+    (cond (contains t a) (cond (isPointer (firstCell first t a) && leb (length long / 256) (segmentOf (firstCell first t a))) 4 0) 3)
+    1
+
+-- a run of lent cells: where it lies, as the memory it is part of and an offset in bytes there, and what it holds
+pub record Run : Type 0 where
+  pub place : ℕ × ℕ
+  pub cells : List ℕ
+
+-- what a reference to a run shows
+abbrev pub seen : RefT (List ℕ) → Run
+seen r = record { place = r .ptr; cells = r .now }
+
+-- the part of a run that starts at a cell; a cell has four bytes
+abbrev pub part : Run → ℕ → ℕ → Run
+part r start count = record { place = (r .place .0, start * 4 + r .place .1); cells = take count (drop start (r .cells)) }
+
+-- the 256 cells of the segment that the first cell points to, or the one first cell; with a refusal none, at the start of the first table
+unfoldable pub shown : Run → Run → Prefix → ℕ → Run
+shown first long t a =
+    let cell = firstCell (first .cells) t a in
+    cond (eqb (showCode (first .cells) (long .cells) t a) 0)
+    (cond (isPointer cell) (part long (segmentOf cell * 256) 256) (part first (blockOf t a) 1))
+    (part first 0 0)

@@ -1,0 +1,60 @@
+// Look up on tables that are bytes, four to a cell, the lowest first, as a C caller passes them.
+ghost use mathlib.Core.Path.{_≡_};
+ghost use Prim.Native.Nat.{_/_, _<_};
+ghost use lib.ListN.{length, getD};
+ghost use Rattle.lookup.specs.Lookup.{packed, saysOf};
+ghost use Rattle.lookup.specs.Bytes.{spelt, words, lookUpBytes};
+use cells::cell::Cell;
+use crate::look::standing;
+use crate::look::verdict;
+use prefix::Prefix;
+
+// A word from its bytes, the lowest first.
+fn spell(a: u8, b: u8, c: u8, d: u8) -> u32
+    ensures { λ r. ⌜ r ≡ spelt a b c d ⌝ }
+{
+    (a as u32) + (b as u32) * 256 + (c as u32) * 65536 + (d as u32) * 16777216
+}
+
+// The cell at an index.
+fn word(bytes: &[u8], at: usize) -> u32
+    requires { ⌜ at < length (now bytes) / 4 ⌝ }
+    ensures { λ r. ⌜ r ≡ getD (words (now (bytes .entry))) at 0 ⌝ }
+{
+    let k = at * 4;
+    spell(bytes[k], bytes[k + 1], bytes[k + 2], bytes[k + 3])
+}
+
+// `look::says`, on bytes.
+fn says_bytes(long: &[u8], low: usize, cell: u32) -> u32
+    requires { ⌜ low < 256 ⌝ }
+    ensures { λ r. ⌜ r ≡ packed (saysOf (words (now (long .entry))) low cell) ⌝ }
+{
+    if cell < Cell::POINTER {
+        return verdict(cell, 24);
+    }
+    let segment = (cell - Cell::POINTER) as usize;
+    if long.len() / 1024 <= segment {
+        return 4 * 65536;
+    }
+    verdict(word(long, segment * 256 + low), 32)
+}
+
+// The answer as the one number code * 65,536 + hop; refusal 1 also where a table is no whole number of cells. It reads just the
+// one or two cells that decide.
+pub fn look_up_bytes(first: &[u8], long: &[u8], territory: Prefix, address: u32) -> u32
+    ensures { λ r. ⌜ r ≡ lookUpBytes (now (first .entry)) (now (long .entry)) territory address ⌝ }
+{
+    if first.len() % 4 != 0 {
+        return 65536;
+    }
+    if long.len() % 4 != 0 {
+        return 65536;
+    }
+    let code = standing(first.len() / 4, long.len() / 4, territory, address);
+    if code != 0 {
+        return code * 65536;
+    }
+    let block = ((address - territory.address) / 256) as usize;
+    says_bytes(long, (address % 256) as usize, word(first, block))
+}

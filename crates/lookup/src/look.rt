@@ -1,0 +1,96 @@
+// Look up: the answer to an address, from the first and the long table.
+ghost use mathlib.Core.Path.{_≡_};
+ghost use Prim.Native.Nat.{_-_, _^_, _<_, _≤_};
+ghost use Rattle.lookup.specs.Lookup.{standingOf, packed, directOrDamage, verdictOf, saysOf, lookUp};
+use cells::cell::Cell;
+use prefix::geometry::blocks_of;
+use prefix::Prefix;
+
+// A refusal's number, or 0 with the hop.
+#[repr(C)]
+pub struct Answer {
+    pub code: u32,
+    pub hop: u32,
+}
+
+// 0 where the numbers of cells lent are right and the address is in the territory, else refusal 1 or 3. The bits after the length
+// are cleared once for both tests: an address of the territory cleared is the territory's own.
+pub fn standing(first: usize, long: usize, territory: Prefix, address: u32) -> u32
+    ensures { λ r. ⌜ r ≡ standingOf first long territory address ⌝ }
+{
+    let base = territory.address;
+    let length = territory.length;
+    if 24 < length {
+        return 1;
+    }
+    if prefix::cleared(base, length) != base {
+        return 1;
+    }
+    if first != blocks_of(length) {
+        return 1;
+    }
+    if long % 256 != 0 {
+        return 1;
+    }
+    if 8388608 < long {
+        return 1;
+    }
+    if prefix::cleared(address, length) != base {
+        return 3;
+    }
+    0
+}
+
+// The hop of a direct cell, or refusal 4, as the one number code * 65,536 + hop.
+fn direct_or_damage(cell: u32, longest: u32) -> u32
+    ensures { λ r. ⌜ r ≡ packed (directOrDamage longest cell) ⌝ }
+{
+    if Cell::is_direct(cell, longest) {
+        return Cell::hop(cell);
+    }
+    4 * 65536
+}
+
+// What a deciding cell says, as one number. Whether it is 0 is asked last, so that the answer is selected and not jumped to: no
+// processor foresees whether the next address has a route.
+pub fn verdict(cell: u32, longest: u32) -> u32
+    ensures { λ r. ⌜ r ≡ packed (verdictOf longest cell) ⌝ }
+{
+    let number = direct_or_damage(cell, longest);
+    if cell == Cell::EMPTY {
+        8 * 65536
+    } else {
+        number
+    }
+}
+
+// What a cell of the first table says for an address whose last eight bits are low, as one number.
+pub fn says(long: &[u32], low: usize, cell: u32) -> u32
+    requires { ⌜ low < 256 ⌝ }
+    ensures { λ r. ⌜ r ≡ packed (saysOf (now (long .entry)) low cell) ⌝ }
+{
+    if cell < Cell::POINTER {
+        return verdict(cell, 24);
+    }
+    let segment = (cell - Cell::POINTER) as usize;
+    if long.len() / 256 <= segment {
+        return 4 * 65536;
+    }
+    verdict(long[segment * 256 + low], 32)
+}
+
+// The answer to an address: the hop of the deciding cell, or refusal 1, 3, 4 or 8.
+pub fn look_up(first: &[u32], long: &[u32], territory: Prefix, address: u32) -> Answer
+    ensures { λ r. ⌜ r ≡ lookUp (now (first .entry)) (now (long .entry)) territory address ⌝ }
+{
+    let code = standing(first.len(), long.len(), territory, address);
+    if code != 0 {
+        return Answer { code, hop: 0 };
+    }
+    let block = ((address - territory.address) / 256) as usize;
+    let number = says(long, (address % 256) as usize, first[block]);
+    Answer {
+        code: number / 65536,
+        hop: number % 65536,
+    }
+}
