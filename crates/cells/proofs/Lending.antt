@@ -1,12 +1,13 @@
 -- What the tests of the sizes of what is lent decide. Assumes nothing.
 use mathlib.Core.Path.{_≡_}
-use Prim.Native.Nat.{ℕ, _*_, _%_, _≤_}
+use Prim.Native.Nat.{ℕ, _*_, _%_, _^_, _≤_}
 use lib.ListN.{length}
+use native.Mathlib.Omega.{arith}
 use Rattle.ground.proofs.Tests.{Decides, leb?, eqb?, and?, iff?}
 use Rattle.prefix.specs.declared.Prefix.{Prefix}
-use Rattle.prefix.specs.Geometry.{blockSize, Territory, blocks}
-use Rattle.prefix.proofs.Spans.{isTerritory?}
-use Rattle.cells.specs.Memory.{Lent, mostSegments, mostRules, lentToRead, lentToUpdate, LentToUpdate, isLent, IsLent}
+use Rattle.prefix.specs.Geometry.{width, blockSize, Territory, blocks}
+use Rattle.prefix.proofs.Spans.{isTerritory?, few-blocks}
+use Rattle.cells.specs.Memory.{Tables, Lent, mostSegments, mostRules, lentToRead, lentToUpdate, isLent, Sized, IsLent}
 
 -- ---- to a call that reads
 
@@ -25,6 +26,13 @@ lentToRead? first long t =
 
 -- ---- to an update
 
+pub record LentToUpdate (first long owners rules : ℕ) (t : Prefix) : Type 0 where
+  pub territory : Territory t
+  pub a-cell-a-block : first ≡ blocks t
+  pub whole-segments : long ≡ blockSize * owners
+  pub few-segments : owners ≤ mostSegments
+  pub few-rules : rules ≤ mostRules
+
 pub lentToUpdate? : (first long owners rules : ℕ) (t : Prefix)
     → Decides (LentToUpdate first long owners rules t) (lentToUpdate first long owners rules t)
 unfolding lentToUpdate
@@ -42,4 +50,21 @@ lentToUpdate? first long owners rules t =
     (λ l. ((((l .territory, l .a-cell-a-block), l .whole-segments), l .few-segments), l .few-rules))
 
 pub isLent? : (m : Lent) (t : Prefix) → Decides (IsLent m t) (isLent m t)
-isLent? m t = lentToUpdate? (length (m .first)) (length (m .long)) (length (m .owners)) (length (m .rules)) t
+isLent? m t =
+    let tables = m .tables in
+    iff? (lentToUpdate? (length (tables .first)) (length (tables .long)) (length (tables .owners)) (length (m .rules)) t)
+    (λ l. record {
+      sized = record { territory = l .territory; firsts = l .a-cell-a-block; longs = l .whole-segments; few = l .few-segments };
+      few-rules = l .few-rules;
+    })
+    (λ l. record {
+      territory = l .sized .territory;
+      a-cell-a-block = l .sized .firsts;
+      whole-segments = l .sized .longs;
+      few-segments = l .sized .few;
+      few-rules = l .few-rules;
+    })
+
+-- a first table of a territory has at most 2 ^ 24 cells
+pub few-firsts : {t : Prefix} {tables : Tables} → Sized t tables → length (tables .first) ≤ 2 ^ width
+few-firsts {t} s = omega (arith, s .firsts, few-blocks t)

@@ -1,22 +1,25 @@
--- The memory that a caller lends: its parts, and the sizes that are asked of them. Assumes nothing.
+-- The memory that a caller lends: its parts, the sizes that are asked of them, and how a contract names it. Assumes nothing.
 use mathlib.Core.Path.{_≡_}
 use Prim.Native.Nat.{ℕ, suc, _*_, _%_, _≤_}
 use mathlib.Core.Bool.{Bool, cond, _&&_}
 use mathlib.Core.List.{List, [], _∷_}
 use lib.Dec.{leb, eqb}
 use lib.ListN.{length}
+use denote.Ref.{RefT, now}
+use denote.Triple.Both.{Both}
 use Rattle.prefix.specs.declared.Prefix.{Prefix}
 use Rattle.prefix.specs.Geometry.{blockSize, isTerritory, Territory, blocks}
 
--- the first table, the long table, the owner words and the rule words
-pub record Lent : Type 0 where
+-- the first table, the long table, and the owner words
+pub record Tables : Type 0 where
   pub first : List ℕ
   pub long : List ℕ
   pub owners : List ℕ
-  pub rules : List ℕ
 
-abbrev pub memory : List ℕ → List ℕ → List ℕ → List ℕ → Lent
-memory first long owners rules = record { first = first; long = long; owners = owners; rules = rules }
+-- what is lent to clear and to the updates: the tables and the rule words
+pub record Lent : Type 0 where
+  pub tables : Tables
+  pub rules : List ℕ
 
 -- ---- sizes, in cells and words
 
@@ -37,22 +40,49 @@ unfoldable pub lentToUpdate : ℕ → ℕ → ℕ → ℕ → Prefix → Bool
 lentToUpdate first long owners rules t =
     isTerritory t && eqb first (blocks t) && eqb long (blockSize * owners) && leb owners mostSegments && leb rules mostRules
 
--- and as the statement that it decides
-pub record LentToUpdate (first long owners rules : ℕ) (t : Prefix) : Type 0 where
-  pub territory : Territory t
-  pub a-cell-a-block : first ≡ blocks t
-  pub whole-segments : long ≡ blockSize * owners
-  pub few-segments : owners ≤ mostSegments
-  pub few-rules : rules ≤ mostRules
-
 -- of a memory
 abbrev pub isLent : Lent → Prefix → Bool
-isLent m t = lentToUpdate (length (m .first)) (length (m .long)) (length (m .owners)) (length (m .rules)) t
+isLent m t =
+    let tables = m .tables in
+    lentToUpdate (length (tables .first)) (length (tables .long)) (length (tables .owners)) (length (m .rules)) t
 
-abbrev pub IsLent : Lent → Prefix → Type 0
-IsLent m t = LentToUpdate (length (m .first)) (length (m .long)) (length (m .owners)) (length (m .rules)) t
+-- the tables have their sizes in the territory
+pub record Sized (t : Prefix) (tables : Tables) : Type 0 where
+  pub territory : Territory t
+  pub firsts : length (tables .first) ≡ blocks t
+  pub longs : length (tables .long) ≡ blockSize * length (tables .owners)
+  pub few : length (tables .owners) ≤ mostSegments
+
+-- the statement that `isLent` decides: all lent memory has its sizes
+pub record IsLent (m : Lent) (t : Prefix) : Type 0 where
+  pub sized : Sized t (m .tables)
+  pub few-rules : length (m .rules) ≤ mostRules
 
 -- the lowest free segment, whose owner word is 0; or how many segments there are
 unfoldable pub lowestFree : List ℕ → ℕ
 lowestFree [] = 0
 lowestFree (o ∷ os) = cond (eqb o 0) 0 (suc (lowestFree os))
+
+-- ---- as a contract names it, by the parameters that lend it: in a `requires`, and in an `ensures` at entry and at exit
+
+abbrev pub tables : (first long owners : RefT (List ℕ)) → Tables
+tables first long owners = record { first = now first; long = now long; owners = now owners }
+
+abbrev pub lent : (first long owners rules : RefT (List ℕ)) → Lent
+lent first long owners rules = record { tables = tables first long owners; rules = now rules }
+
+-- a parameter at its two moments
+abbrev pub Slice : Type 0
+Slice = Both (RefT (List ℕ)) (RefT (List ℕ))
+
+abbrev pub tablesIn : (first long owners : Slice) → Tables
+tablesIn first long owners = tables (first .entry) (long .entry) (owners .entry)
+
+abbrev pub tablesOut : (first long owners : Slice) → Tables
+tablesOut first long owners = tables (first .exit) (long .exit) (owners .exit)
+
+abbrev pub lentIn : (first long owners rules : Slice) → Lent
+lentIn first long owners rules = lent (first .entry) (long .entry) (owners .entry) (rules .entry)
+
+abbrev pub lentOut : (first long owners rules : Slice) → Lent
+lentOut first long owners rules = lent (first .exit) (long .exit) (owners .exit) (rules .exit)

@@ -1,15 +1,16 @@
 // Refusal 1 of clear and the updates: the sizes of what is lent.
 ghost use mathlib.Core.Path.{_≡_};
 ghost use Rattle.cells.specs.Memory.{lentToUpdate};
-use prefix::geometry::blocks_of;
-use prefix::geometry::Block;
 use prefix::Prefix;
+use prefix::geometry::Block;
+use prefix::geometry::blocks_of;
 
 // The most that can be lent.
 pub struct Most {}
 
 impl Most {
     pub const SEGMENTS: usize = 32768;
+
     pub const RULES: usize = 65536;
     // The cells of so many segments.
     pub const LONG: usize = Block::CELLS * Most::SEGMENTS;

@@ -4,9 +4,9 @@ ghost use Prim.Native.Nat.{_/_, _<_};
 ghost use lib.ListN.{length, getD};
 ghost use Rattle.lookup.specs.Lookup.{packed, saysOf};
 ghost use Rattle.lookup.specs.Bytes.{spelt, words, lookUpBytes};
-use cells::cell::Cell;
 use crate::look::standing;
 use crate::look::verdict;
+use cells::cell::Cell;
 use prefix::Prefix;
 
 // A word from its bytes, the lowest first.

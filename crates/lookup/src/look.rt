@@ -3,8 +3,8 @@ ghost use mathlib.Core.Path.{_≡_};
 ghost use Prim.Native.Nat.{_-_, _^_, _<_, _≤_};
 ghost use Rattle.lookup.specs.Lookup.{standingOf, packed, directOrDamage, verdictOf, saysOf, lookUp};
 use cells::cell::Cell;
-use prefix::geometry::blocks_of;
 use prefix::Prefix;
+use prefix::geometry::blocks_of;
 
 // A refusal's number, or 0 with the hop.
 #[repr(C)]

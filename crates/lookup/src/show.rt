@@ -1,8 +1,8 @@
 // Show: the run of lent cells that decides the block of an address, and the number of its refusal.
 ghost use mathlib.Core.Path.{_≡_};
 ghost use Rattle.lookup.specs.Show.{showCode, seen, shown};
-use cells::cell::Cell;
 use crate::look::standing;
+use cells::cell::Cell;
 use prefix::Prefix;
 
 // The number: 0, or refusal 1, 3 or 4.

@@ -12,8 +12,8 @@ ghost use Rattle.cells.specs.Memory.{LentToUpdate};
 ghost use Rattle.refusals.specs.Damage.{isClean, segmentSound, soundBy, blocksSound};
 ghost use Rattle.refusals.specs.Walk.{cleanRun, soundRun, Reached, StretchIs, PassedIs, MayWalk};
 use cells::cell::Cell;
-use prefix::geometry::blocks_of;
 use prefix::Prefix;
+use prefix::geometry::blocks_of;
 use rules::list::position;
 use rules::word::Rule;
 

@@ -12,9 +12,9 @@ use Rattle.prefix.specs.Geometry.{blockStart, blockOf, blocks}
 use Rattle.prefix.proofs.Prefixes.{by-range, ends-inside}
 use Rattle.prefix.proofs.Spans.{span-blocks}
 use Rattle.tables.specs.Cellwise.{cellAddress}
-use Rattle.tables.specs.Ready.{Owns, Ready}
-use Rattle.tables.specs.Ranges.{PrefixRun, RunChanged}
-use Rattle.tables.specs.Repaint.{Points}
+use Rattle.tables.specs.inner.Ready.{Owns, Ready}
+use Rattle.tables.specs.inner.Ranges.{PrefixRun, RunChanged}
+use Rattle.tables.specs.inner.Repaint.{Points}
 use Rattle.tables.proofs.Ranges.{run-cong}
 use Rattle.prefix.proofs.Spans as spans
 use Rattle.tables.proofs.Repaints.{owns}

@@ -11,8 +11,8 @@ use Rattle.ground.specs.Lists.{differs}
 use Rattle.ground.proofs.Tests.{ltb?, by-test}
 use Rattle.ground.proofs.Lists.{length-where, getD-off, where-none, where-one, where-same, where-then, differing-refl, differing-le, differing-one, differing-then}
 use Rattle.cells.specs.Cells.{pointerBit, pointTo, segmentOf}
-use Rattle.tables.specs.Ready.{Owns}
-use Rattle.tables.specs.Ranges.{RunChanged, BlocksReady, BlocksChanged}
+use Rattle.tables.specs.inner.Ready.{Owns}
+use Rattle.tables.specs.inner.Ranges.{RunChanged, BlocksReady, BlocksChanged}
 use Rattle.tables.proofs.Ranges.{inRange?}
 use Rattle.tables.proofs.Segments.{Direct, Open, Among, directAmong?, openAmong?}
 

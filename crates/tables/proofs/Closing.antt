@@ -12,7 +12,7 @@ use Rattle.prefix.specs.declared.Prefix.{Prefix}
 use Rattle.cells.specs.Cells.{empty}
 use Rattle.prefix.specs.Geometry.{blockOf}
 use Rattle.tables.specs.Cellwise.{firstChanged, longChanged}
-use Rattle.tables.specs.Ranges.{RunChanged}
+use Rattle.tables.specs.inner.Ranges.{RunChanged}
 use Rattle.tables.specs.Segments.{segmentFilled, Closable, segmentAt, Closed}
 use Rattle.tables.proofs.Segments.{openIn?}
 use Rattle.tables.proofs.Filling.{filled-whole, length-filled, getD-filled, getD-other}

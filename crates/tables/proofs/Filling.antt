@@ -7,7 +7,7 @@ use lib.ListN.{length, getD}
 use Rattle.ground.specs.Lists.{changeWhere}
 use Rattle.ground.proofs.Tests.{eqb?, by-test, cond-on, cond-off}
 use Rattle.ground.proofs.Lists.{is-where, where-same, length-where, getD-on, getD-off}
-use Rattle.tables.specs.Ranges.{inRange, InSegment, RunChanged, twoValues}
+use Rattle.tables.specs.inner.Ranges.{inRange, InSegment, RunChanged, twoValues}
 use Rattle.tables.specs.Segments.{segmentFilled}
 use Rattle.tables.proofs.Ranges.{inRange?, run-length, run-cong, run-then}
 

@@ -11,8 +11,8 @@ use Rattle.prefix.specs.declared.Prefix.{Prefix}
 use Rattle.cells.specs.Cells.{pointTo}
 use Rattle.prefix.specs.Geometry.{blockOf}
 use Rattle.tables.specs.Cellwise.{cellAddress}
-use Rattle.tables.specs.Ready.{Ready}
-use Rattle.tables.specs.Ranges.{InSegment, PrefixRun, RunChanged, twoValues}
+use Rattle.tables.specs.inner.Ready.{Ready}
+use Rattle.tables.specs.inner.Ranges.{InSegment, PrefixRun, RunChanged, twoValues}
 use Rattle.tables.specs.Segments.{segmentFilled, Openable, firstOpened, ownersOpened, OpenedAndChanged}
 use Rattle.prefix.proofs.Spans as spans
 use Rattle.tables.proofs.Filling.{length-filled, filled-then}

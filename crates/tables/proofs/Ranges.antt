@@ -10,7 +10,7 @@ use lib.ListN.{length, getD, set, length-set}
 use Rattle.ground.specs.Lists.{differs}
 use Rattle.ground.proofs.Tests.{Decides, leb?, ltb?, and?, by-test}
 use Rattle.ground.proofs.Lists.{where-none, where-one, where-cong, where-then, length-where, differs-small, differing-refl, differing-le, differing-one, differing-then}
-use Rattle.tables.specs.Ranges.{inRange, Within, RunChanged}
+use Rattle.tables.specs.inner.Ranges.{inRange, Within, RunChanged}
 
 pub inRange? : (from to i : ℕ) → Decides ((from ≤ i) × (i < to)) (inRange from to i)
 unfolding inRange

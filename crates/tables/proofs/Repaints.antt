@@ -13,9 +13,9 @@ use Rattle.prefix.specs.Prefixes.{span, Contains}
 use Rattle.prefix.specs.Geometry.{blockStart, blockOf, blocks}
 use Rattle.cells.specs.Cells.{pointTo, segmentOf}
 use Rattle.tables.specs.Cellwise.{cellAddress, firstChanged, longChanged}
-use Rattle.tables.specs.Ready.{Owns, Ready}
-use Rattle.tables.specs.Ranges.{Within, PrefixRun, RunChanged, BlocksReady, BlocksChanged}
-use Rattle.tables.specs.Repaint.{Points, Repainted}
+use Rattle.tables.specs.inner.Ready.{Owns, Ready}
+use Rattle.tables.specs.inner.Ranges.{Within, PrefixRun, RunChanged, BlocksReady, BlocksChanged}
+use Rattle.tables.specs.inner.Repaint.{Points, Repainted}
 use Rattle.tables.proofs.Ranges.{inRange?}
 use Rattle.tables.proofs.Segments.{Open, directAmong?, openAmong?, directIn?, openIn?}
 use Rattle.prefix.proofs.Spans as spans

@@ -12,7 +12,7 @@ use Rattle.prefix.specs.Geometry.{blockStart}
 use Rattle.prefix.proofs.Prefixes.{contains?}
 use Rattle.cells.specs.Cells.{pointerBit, pointTo, isPointer}
 use Rattle.tables.specs.Cellwise.{isOpenSegment, directIn, openIn}
-use Rattle.tables.specs.Ranges.{directAmong, openAmong}
+use Rattle.tables.specs.inner.Ranges.{directAmong, openAmong}
 use Rattle.tables.proofs.Ranges.{inRange?}
 
 -- ---- direct cells

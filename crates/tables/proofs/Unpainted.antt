@@ -8,7 +8,7 @@ use Rattle.prefix.specs.Routes.{Route, best}
 use Rattle.cells.specs.Cells.{empty, lengthOf, cellOf}
 use Rattle.runs.specs.Run.{RunIs}
 use Rattle.tables.specs.Cellwise.{unpaintCell}
-use Rattle.tables.specs.Unpaint.{Kept}
+use Rattle.tables.specs.inner.Unpaint.{Kept}
 
 module _ (l : ℕ) (rs : List Route) (a cell : ℕ) where
   pub unpaint-on : (cell ≡ empty → ⊥) → lengthOf cell ≡ l → unpaintCell l rs a cell ≡ cellOf (best rs a)

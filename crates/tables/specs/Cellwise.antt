@@ -1,16 +1,17 @@
 -- A change of each cell in a prefix, direct or in an open segment, by a function of its address and its content. Nothing here depends on
 -- an order of stores. Assumes nothing.
-use Prim.Native.Nat.{ℕ, _+_, _-_, _/_, _%_}
-use mathlib.Core.Bool.{Bool, cond, not, _&&_, _||_}
+use Prim.Native.Nat.{ℕ, zero, suc, _+_, _/_, _%_}
+use mathlib.Core.Bool.{Bool, false, cond, not, _&&_, _||_}
 use mathlib.Core.List.{List}
 use lib.Dec.{leb, eqb}
 use lib.ListN.{getD}
 use Rattle.ground.specs.Lists.{changeWhere}
 use Rattle.prefix.specs.declared.Prefix.{Prefix}
 use Rattle.prefix.specs.Prefixes.{contains}
-use Rattle.prefix.specs.Geometry.{blockStart}
+use Rattle.prefix.specs.Geometry.{blockSize, blockStart}
 use Rattle.prefix.specs.Routes.{Route, best}
 use Rattle.cells.specs.Cells.{empty, lengthOf, pointTo, isPointer, cellOf}
+use Rattle.cells.specs.Memory.{Tables}
 
 -- ---- what becomes of one cell
 
@@ -28,22 +29,32 @@ unpaintCell l left address cell = cond (not (eqb cell empty) && eqb (lengthOf ce
 unfoldable pub directIn : Prefix → Prefix → List ℕ → ℕ → Bool
 directIn t p first block = contains p (blockStart t block) && not (isPointer (getD first block 0))
 
--- the address of a cell of the long table: the owner word of its segment is its block's number + 1
-abbrev pub cellAddress : Prefix → List ℕ → ℕ → ℕ
-cellAddress t owners i = blockStart t (getD owners (i / 256) 0 - 1) + i % 256
+-- the owner word of the segment that the cell i of the long table stands in: 0 where it is free, else the number of its block + 1
+abbrev pub ownerAt : Tables → ℕ → ℕ
+ownerAt tables i = getD (tables .owners) (i / blockSize) 0
 
--- segment s is open: it has an owner, whose block points to it
-unfoldable pub isOpenSegment : List ℕ → List ℕ → ℕ → Bool
-isOpenSegment first owners s = not (eqb (getD owners s 0) 0) && eqb (getD first (getD owners s 0 - 1) 0) (pointTo s)
+-- by the owner word, the cell is in an open segment, to which its block points, and in the prefix
+unfoldable pub openBy : Prefix → Prefix → List ℕ → ℕ → ℕ → Bool
+openBy t p first i zero = false
+openBy t p first i (suc block) =
+    eqb (getD first block 0) (pointTo (i / blockSize)) && contains p (blockStart t block + i % blockSize)
 
--- the cell of the long table is in an open segment and in the prefix
-unfoldable pub openIn : Prefix → Prefix → List ℕ → List ℕ → ℕ → Bool
-openIn t p first owners i = isOpenSegment first owners (i / 256) && contains p (cellAddress t owners i)
+unfoldable pub openIn : Prefix → Prefix → Tables → ℕ → Bool
+openIn t p tables i = openBy t p (tables .first) i (ownerAt tables i)
 
--- ---- the two tables with those cells changed
+-- by the owner word, the address of the cell; one in a free segment has none, and is not asked for
+abbrev pub addressBy : Prefix → ℕ → ℕ → ℕ
+addressBy t i zero = 0
+addressBy t i (suc block) = blockStart t block + i % blockSize
 
-unfoldable pub firstChanged : Prefix → Prefix → (ℕ → ℕ → ℕ) → List ℕ → List ℕ
-firstChanged t p f first = changeWhere (directIn t p first) (λ k x. f (blockStart t k) x) first
+abbrev pub cellAddress : Prefix → Tables → ℕ → ℕ
+cellAddress t tables i = addressBy t i (ownerAt tables i)
 
-unfoldable pub longChanged : Prefix → Prefix → (ℕ → ℕ → ℕ) → List ℕ → List ℕ → List ℕ → List ℕ
-longChanged t p f first owners long = changeWhere (openIn t p first owners) (λ i x. f (cellAddress t owners i) x) long
+-- ---- the tables with those cells changed
+
+unfoldable pub repainted : Prefix → Prefix → (ℕ → ℕ → ℕ) → Tables → Tables
+repainted t p f tables = record {
+  first = changeWhere (directIn t p (tables .first)) (λ k x. f (blockStart t k) x) (tables .first);
+  long = changeWhere (openIn t p tables) (λ i x. f (cellAddress t tables i) x) (tables .long);
+  owners = tables .owners;
+}

@@ -1,7 +1,4 @@
--- Changes of the tables, cell by cell, what they require, and what the loops that make them do.
+-- Changes of the tables, cell by cell and as a whole; in `inner`, what serves loops and inner functions.
 pub mod Cellwise
-pub mod Ready
-pub mod Ranges
-pub mod Repaint
-pub mod Segments
-pub mod Unpaint
+pub mod Changes
+pub mod inner

@@ -2,7 +2,7 @@
 // with 0.
 ghost use Prim.Native.Nat.{_+_};
 ghost use Rattle.tables.specs.Cellwise.{paintCell};
-ghost use Rattle.tables.specs.Ranges.{Within, InSegment, RunChanged, twoValues};
+ghost use Rattle.tables.specs.inner.Ranges.{Within, InSegment, RunChanged, twoValues};
 ghost use Rattle.tables.specs.Segments.{Openable, OpenedAndChanged, Closable, Closed};
 use crate::paint;
 use crate::place;

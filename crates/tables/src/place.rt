@@ -4,7 +4,7 @@ ghost use Prim.Native.Nat.{_*_, _<_, _≤_};
 ghost use Rattle.prefix.specs.Prefixes.{span};
 ghost use Rattle.cells.specs.Cells.{pointerBit, segmentOf};
 ghost use Rattle.prefix.specs.Geometry.{blockOf};
-ghost use Rattle.tables.specs.Ranges.{PrefixRun};
+ghost use Rattle.tables.specs.inner.Ranges.{PrefixRun};
 use cells::cell::Cell;
 use prefix::Prefix;
 

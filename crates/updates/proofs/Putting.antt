@@ -25,9 +25,9 @@ use Rattle.refusals.proofs.FreeWords.{lowest-free, all-live}
 use Rattle.refusals.proofs.Refusing.{Passed, needsSegment?, announce-passed, live-passed}
 use Rattle.refusals.proofs.Soundness.{BlockSound}
 use Rattle.tables.specs.Cellwise.{paintCell, firstChanged, longChanged}
-use Rattle.tables.specs.Ready.{Ready}
+use Rattle.tables.specs.inner.Ready.{Ready}
 use Rattle.prefix.proofs.Spans.{some-block, opens-own}
-use Rattle.tables.specs.Repaint.{Points, Repaintable, Repainted}
+use Rattle.tables.specs.inner.Repaint.{Points, Repaintable, Repainted}
 use Rattle.tables.specs.Segments.{Openable, OpenedAndChanged, firstOpened, ownersOpened, segmentFilled}
 use Rattle.updates.specs.Effects.{repainted, listing, openedAt, opened, announced}
 use Rattle.updates.specs.Calls.{accepted, changed, Meets}

@@ -29,7 +29,7 @@ use Rattle.prefix.proofs.Spans.{aligned}
 use Rattle.refusals.proofs.Refusing.{live-passed}
 use Rattle.refusals.proofs.Soundness.{true?}
 use Rattle.tables.specs.Cellwise.{unpaintCell}
-use Rattle.tables.specs.Repaint.{Repaintable, Repainted}
+use Rattle.tables.specs.inner.Repaint.{Repaintable, Repainted}
 use Rattle.tables.specs.Segments.{Closable, Closed, segmentFilled}
 use Rattle.tables.proofs.Closing.{set-after, filled-after}
 use Rattle.tables.proofs.Repaints.{firsts-stay}

@@ -14,8 +14,8 @@ use Rattle.rules.specs.Rules.{Formed, Listed, PlaceIs}
 use Rattle.cells.specs.Memory.{Lent}
 use Rattle.refusals.specs.Codes.{noZero, needsSegment}
 use Rattle.tables.specs.Cellwise.{paintCell, unpaintCell}
-use Rattle.tables.specs.Ready.{Ready}
-use Rattle.tables.specs.Repaint.{Repaintable}
+use Rattle.tables.specs.inner.Ready.{Ready}
+use Rattle.tables.specs.inner.Repaint.{Repaintable}
 use Rattle.updates.specs.Effects.{repainted, opened, closed}
 
 -- the two tables and the owner words at exit are those of n, and r is how many cells of the tables differ from those of m

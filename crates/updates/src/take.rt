@@ -4,7 +4,7 @@ ghost use mathlib.Core.Path.{_≡_};
 ghost use Rattle.rules.specs.Rules.{routes, Listed};
 ghost use Rattle.cells.specs.Memory.{memory};
 ghost use Rattle.prefix.specs.Geometry.{blockStart, blockOf};
-ghost use Rattle.tables.specs.Repaint.{Repaintable};
+ghost use Rattle.tables.specs.inner.Repaint.{Repaintable};
 ghost use Rattle.updates.specs.Calls.{accepted, Meets};
 ghost use Rattle.updates.specs.Effects.{closes, withdrawn};
 ghost use Rattle.updates.specs.Steps.{Blocked, Unpainted, Takable};

@@ -5,7 +5,7 @@ use Prim.Native.Nat.{_*_}
 use native.Mathlib.Omega.{arith}
 use denote.Ref.{now}
 use borrow.Author.Needs.{needs}
-use Rattle.tables.specs.Ranges.{InSegment}
+use Rattle.tables.specs.inner.Ranges.{InSegment}
 use Rattle.tables.proofs.Ranges.{run-small}
 use Rattle.tables.proofs.Opening.{base-first, block-in, run-in-segment, opened-and-changed}
 use Rattle.tables.proofs.fill.open_and_paint.Statement.{statement}

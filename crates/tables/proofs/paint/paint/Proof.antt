@@ -7,7 +7,7 @@ use lib.ListN.{getD}
 use denote.Ref.{now}
 use borrow.Author.Needs.{needs}
 use Rattle.prefix.specs.Geometry.{blockOf}
-use Rattle.tables.specs.Ranges.{BlocksReady}
+use Rattle.tables.specs.inner.Ranges.{BlocksReady}
 use Rattle.tables.proofs.Repaints.{past-base, block-lent, blocks-ready, blocks-repainted, run-within, run-repainted}
 use Rattle.tables.proofs.paint.paint.Statement.{statement}
 use Rattle.tables.proofs.paint.paint.Tie as tie

@@ -5,7 +5,7 @@ use native.Mathlib.Nat.{le-antisymm}
 use native.Mathlib.Omega.{arith}
 use borrow.Author.Needs.{needs}
 use Rattle.tables.specs.Cellwise.{paintCell}
-use Rattle.tables.specs.Ranges.{BlocksChanged}
+use Rattle.tables.specs.inner.Ranges.{BlocksChanged}
 use Rattle.tables.proofs.Blocks.{blocks-none, few-blocks, blocks-then, ready-then, same-firsts, same-longs}
 use Rattle.tables.proofs.paint.paint_blocks.Statement.{statement}
 use Rattle.tables.proofs.paint.paint_blocks.Tie as tie

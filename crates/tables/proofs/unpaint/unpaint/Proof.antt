@@ -9,7 +9,7 @@ use borrow.Author.Needs.{needs}
 use Rattle.prefix.specs.Geometry.{blockOf}
 use Rattle.rules.specs.Rules.{routes}
 use Rattle.tables.specs.Cellwise.{unpaintCell}
-use Rattle.tables.specs.Ranges.{BlocksReady}
+use Rattle.tables.specs.inner.Ranges.{BlocksReady}
 use Rattle.tables.proofs.Repaints.{past-base, block-lent, blocks-ready, blocks-repainted, run-within, run-repainted}
 use Rattle.tables.proofs.Addresses.{blocks-start, blocks-end, run-end, own-run}
 use Rattle.tables.proofs.Unpainted.{kept-later, kept-run}

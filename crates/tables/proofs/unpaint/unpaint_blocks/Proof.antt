@@ -8,8 +8,8 @@ use borrow.Author.Needs.{needs}
 use Rattle.prefix.specs.Geometry.{blockStart}
 use Rattle.rules.specs.Rules.{routes}
 use Rattle.tables.specs.Cellwise.{unpaintCell, cellAddress}
-use Rattle.tables.specs.Ranges.{BlocksChanged}
-use Rattle.tables.specs.Unpaint.{BlocksUnpainted}
+use Rattle.tables.specs.inner.Ranges.{BlocksChanged}
+use Rattle.tables.specs.inner.Unpaint.{BlocksUnpainted}
 use Rattle.tables.proofs.Blocks.{blocks-none, few-blocks, blocks-then, ready-then, same-firsts, same-longs}
 use Rattle.tables.proofs.unpaint.unpaint_blocks.Statement.{statement}
 use Rattle.tables.proofs.unpaint.unpaint_blocks.Tie as tie

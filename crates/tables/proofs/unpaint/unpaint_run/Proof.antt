@@ -6,7 +6,7 @@ use borrow.Author.Needs.{needs}
 use Rattle.ground.proofs.Lists.{differs-small}
 use Rattle.rules.specs.Rules.{routes}
 use Rattle.tables.specs.Cellwise.{unpaintCell}
-use Rattle.tables.specs.Unpaint.{Kept}
+use Rattle.tables.specs.inner.Unpaint.{Kept}
 use Rattle.tables.proofs.Ranges.{Reached, start, turn, finish}
 use Rattle.tables.proofs.Unpainted.{kept-later}
 use Rattle.tables.proofs.unpaint.unpaint_run.Statement.{statement}

@@ -8,7 +8,7 @@ use Rattle.prefix.specs.Routes.{Route, best}
 use Rattle.cells.specs.Cells.{cellOf}
 use Rattle.rules.specs.Rules.{routes, Listed}
 use Rattle.tables.specs.Cellwise.{unpaintCell, cellAddress}
-use Rattle.tables.specs.Ranges.{RunChanged, BlocksChanged}
+use Rattle.tables.specs.inner.Ranges.{RunChanged, BlocksChanged}
 
 -- every address from a on and before the end has the longest match whose cell is found
 pub record Kept (rs : List Route) (a found end : ℕ) : Type 0 where

@@ -8,7 +8,7 @@ use Rattle.prefix.specs.declared.Prefix.{Prefix}
 use Rattle.cells.specs.Cells.{pointerBit}
 use Rattle.prefix.specs.Geometry.{blockOf}
 use Rattle.tables.specs.Cellwise.{firstChanged, longChanged}
-use Rattle.tables.specs.Ready.{Ready}
+use Rattle.tables.specs.inner.Ready.{Ready}
 
 -- the first cell of the prefix's block is a pointer
 abbrev pub Points : Prefix → Prefix → List ℕ → Type 0

@@ -10,7 +10,7 @@ use Rattle.prefix.specs.declared.Prefix.{Prefix}
 use Rattle.prefix.specs.Prefixes.{span}
 use Rattle.cells.specs.Cells.{isPointer, segmentOf}
 use Rattle.tables.specs.Cellwise.{isOpenSegment}
-use Rattle.tables.specs.Ready.{Owned}
+use Rattle.tables.specs.inner.Ready.{Owned}
 
 -- from ≤ i < to
 unfoldable pub inRange : ℕ → ℕ → ℕ → Bool
