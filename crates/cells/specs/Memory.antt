@@ -1,14 +1,15 @@
 -- The memory that a caller lends: its parts, the sizes that are asked of them, and how a contract names it. Assumes nothing.
 use mathlib.Core.Path.{_≡_}
 use Prim.Native.Nat.{ℕ, suc, _*_, _%_, _≤_}
-use mathlib.Core.Bool.{Bool, cond, _&&_}
+use mathlib.Core.Bool.{Bool, true, cond, not, _&&_}
 use mathlib.Core.List.{List, [], _∷_}
-use lib.Dec.{leb, eqb}
-use lib.ListN.{length}
+use lib.Dec.{leb, ltb, eqb}
+use lib.ListN.{length, getD}
 use denote.Ref.{RefT, now}
 use denote.Triple.Both.{Both}
 use Rattle.prefix.specs.declared.Prefix.{Prefix}
-use Rattle.prefix.specs.Geometry.{blockSize, isTerritory, Territory, blocks}
+use Rattle.prefix.specs.Geometry.{width, blockSize, isTerritory, Territory, blocks, blockOf}
+use Rattle.cells.specs.Cells.{isPointer}
 
 -- the first table, the long table, and the owner words
 pub record Tables : Type 0 where
@@ -58,10 +59,21 @@ pub record IsLent (m : Lent) (t : Prefix) : Type 0 where
   pub sized : Sized t (m .tables)
   pub few-rules : length (m .rules) ≤ mostRules
 
+-- ---- free words and segments
+
+-- no word is 0
+unfoldable pub noZero : List ℕ → Bool
+noZero [] = true
+noZero (w ∷ ws) = not (eqb w 0) && noZero ws
+
 -- the lowest free segment, whose owner word is 0; or how many segments there are
 unfoldable pub lowestFree : List ℕ → ℕ
 lowestFree [] = 0
 lowestFree (o ∷ os) = cond (eqb o 0) 0 (suc (lowestFree os))
+
+-- the prefix is longer than 24 and its block has no segment
+unfoldable pub needsSegment : Prefix → Prefix → Tables → Bool
+needsSegment t p tables = ltb width (p .length) && not (isPointer (getD (tables .first) (blockOf t (p .address)) 0))
 
 -- ---- as a contract names it, by the parameters that lend it: in a `requires`, and in an `ensures` at entry and at exit
 

@@ -22,7 +22,7 @@ use Rattle.rules.specs.Rules.{routes, Formed}
 use Rattle.rules.proofs.FormTests.{formed?}
 use Rattle.cells.specs.Memory.{Lent}
 use Rattle.refusals.specs.Damage.{isClean, segmentSound, soundBy, blockSound, blocksSound, undamaged}
-use Rattle.refusals.specs.Walk.{cleanRun}
+use Rattle.refusals.specs.inner.Walk.{cleanRun}
 
 -- ---- cells
 

@@ -22,7 +22,7 @@ use Rattle.rules.specs.Words.{prefixOf, routeOf}
 use Rattle.rules.specs.Rules.{routes, Listed}
 use Rattle.rules.proofs.Indices.{routes-index, index-routes, listed-order}
 use Rattle.refusals.specs.Damage.{blockSound, blocksSound}
-use Rattle.refusals.specs.Walk.{soundRun, Reached, StretchIs, PassedIs}
+use Rattle.refusals.specs.inner.Walk.{soundRun, Reached, StretchIs, PassedIs}
 use Rattle.refusals.proofs.Soundness.{Clean, CleanRun, clean-below, SoundBy, soundBy?}
 
 -- ---- the cursor

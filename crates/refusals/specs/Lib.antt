@@ -1,4 +1,4 @@
--- When an update is refused.
+-- When an update is refused; in `inner`, what serves loops and inner functions.
 pub mod Damage
-pub mod Walk
 pub mod Codes
+pub mod inner

@@ -10,7 +10,7 @@ ghost use Rattle.rules.specs.Words.{prefixOf};
 ghost use Rattle.rules.specs.Rules.{routes, Listed};
 ghost use Rattle.cells.specs.Memory.{LentToUpdate};
 ghost use Rattle.refusals.specs.Damage.{isClean, segmentSound, soundBy, blocksSound};
-ghost use Rattle.refusals.specs.Walk.{cleanRun, soundRun, Reached, StretchIs, PassedIs, MayWalk};
+ghost use Rattle.refusals.specs.inner.Walk.{cleanRun, soundRun, Reached, StretchIs, PassedIs, MayWalk};
 use cells::cell::Cell;
 use prefix::Prefix;
 use prefix::geometry::blocks_of;

@@ -10,18 +10,14 @@ use Rattle.prefix.specs.declared.Prefix.{Prefix}
 use Rattle.prefix.specs.Geometry.{width, blockSize, blockOf, blockStart}
 use Rattle.prefix.specs.Price.{isOpen}
 use Rattle.prefix.specs.Routes.{Route, best}
-use Rattle.cells.specs.Cells.{empty, pointTo, isPointer, segmentOf, cellOf}
-use Rattle.cells.specs.Memory.{Tables, lowestFree}
+use Rattle.cells.specs.Cells.{empty, pointTo, segmentOf, cellOf}
+use Rattle.cells.specs.Memory.{Tables, lowestFree, needsSegment}
 
 -- all cells of the segment s take one value
 unfoldable pub segmentFilled : ℕ → ℕ → List ℕ → List ℕ
 segmentFilled s value long = changeWhere (λ i. eqb (i / blockSize) s) (λ i x. value) long
 
 -- ---- opening
-
--- the prefix is longer than 24 and its block has no segment
-unfoldable pub needsSegment : Prefix → Prefix → Tables → Bool
-needsSegment t p tables = ltb width (p .length) && not (isPointer (getD (tables .first) (blockOf t (p .address)) 0))
 
 -- segment s opened for the block: all its cells take the old first cell, and the owner word and the pointer are set
 unfoldable pub openedAt : ℕ → ℕ → Tables → Tables

@@ -5,7 +5,7 @@ use Prim.Native.Nat.{_-_, _≤_}
 use native.Mathlib.Omega.{arith}
 use borrow.Author.Needs.{needs}
 use Rattle.ground.specs.Lists.{everyBelow}
-use Rattle.refusals.specs.Walk.{cleanRun}
+use Rattle.refusals.specs.inner.Walk.{cleanRun}
 use Rattle.refusals.proofs.Soundness.{clean-more}
 use Rattle.refusals.proofs.damage.clean_run.Statement.{statement}
 use Rattle.refusals.proofs.damage.clean_run.Tie as tie
