@@ -2,7 +2,7 @@
 use mathlib.Core.Path.{_≡_, refl, sym, ap, subst, _∙_}
 use mathlib.Core.Bool.{Bool, true, false, cond, _||_, or-true, false≢true}
 use mathlib.Core.List.{List}
-use Prim.Native.Nat.{ℕ, _+_, _%_, _≤_, _<_}
+use Prim.Native.Nat.{ℕ, _+_, _%_, _<_}
 use native.Mathlib.Omega.{arith}
 use lib.Dec.{lit≤}
 use lib.ListN.{length, getD}
@@ -11,24 +11,23 @@ use Rattle.ground.proofs.Tests.{Decides, holds, fails, passes, stops}
 use Rattle.ground.proofs.Cases.{by-lt, by-eq}
 use Rattle.prefix.specs.declared.Prefix.{Prefix}
 use Rattle.prefix.specs.Prefixes.{contains, Encloses}
-use Rattle.prefix.specs.Geometry.{Territory, blockStart, blockOf, blocks}
+use Rattle.prefix.specs.Geometry.{Territory, blockStart, blockOf, blocks, blockSize, width}
 use Rattle.prefix.specs.Price.{opens, isOpen}
 use Rattle.prefix.specs.Routes.{Route, best, with-route, IsRoute, AllRoutes}
 use Rattle.prefix.proofs.Changes.{best-with}
 use Rattle.prefix.proofs.Blocks.{opens?, opened-with, closed, block-top}
 use Rattle.cells.specs.Cells.{pack, pointerBit, pointTo, cellOf}
 use Rattle.prefix.proofs.Spans.{block-inside, opens-own, opens-only, aligned}
-use Rattle.refusals.specs.Codes.{noZero, needsSegment}
-use Rattle.tables.specs.Cellwise.{paintCell}
-use Rattle.cells.specs.Memory.{Lent, lowestFree}
+use Rattle.cells.specs.Memory.{noZero, needsSegment, lowestFree, Tables}
+use Rattle.tables.specs.Cellwise.{paintCell, repainted}
 use Rattle.refusals.proofs.FreeWords.{lowest-free}
-use Rattle.refusals.proofs.Refusing.{needsSegment?}
-use Rattle.updates.specs.Effects.{repainted, openedAt, opened}
-use Rattle.history.proofs.Tables.{Tables, closed-cell, open-pointer, retold, pointer-stays, repaint-step, open-step}
+use Rattle.cells.proofs.Lending.{needsSegment?}
+use Rattle.tables.specs.Changes.{openedAt, openedFor}
+use Rattle.history.proofs.Holding.{closed-cell, open-pointer, retold, pointer-stays, repaint-step, open-step, Holds}
 use Rattle.history.proofs.Matches.{best-good, cell-direct, paint-better}
 use Rattle.history.proofs.LiveTables.{TablesOf}
 
-module _ (t : Prefix) (r : Route) (rs : List Route) (m : Lent) (T : TablesOf t rs m) (h : Territory t) (route : IsRoute r)
+module _ (t : Prefix) (r : Route) (rs : List Route) (T : Tables) (H : TablesOf t rs T) (h : Territory t) (route : IsRoute r)
     (e : Encloses t (r .prefix)) (all : AllRoutes rs) where
   abbrev b : ℕ
   b = blockOf t (r .prefix .address)
@@ -43,53 +42,49 @@ module _ (t : Prefix) (r : Route) (rs : List Route) (m : Lent) (T : TablesOf t r
   here = block-inside h (e .inside)
 
   -- which blocks are open then
-  also : (k : ℕ) (x : Bool) → opens 24 (r .prefix) (blockStart t k) ≡ x → Q k ≡ x || O k
-  also k x o = opened-with 24 r rs (blockStart t k) route all ∙ ap (λ (y : Bool). y || O k) o
+  also : (k : ℕ) (x : Bool) → opens width (r .prefix) (blockStart t k) ≡ x → Q k ≡ x || O k
+  also k x o = opened-with width r rs (blockStart t k) route all ∙ ap (λ (y : Bool). y || O k) o
 
   others : (k : ℕ) → ¬ (k ≡ b) → Q k ≡ O k
-  others k d = also k false (stops (opens? 24 (r .prefix) (blockStart t k)) (λ o. d (opens-only t (r .prefix) k h e o)))
+  others k d = also k false (stops (opens? width (r .prefix) (blockStart t k)) (λ o. d (opens-only t (r .prefix) k h e o)))
 
-  own-open : 24 < r .prefix .length → Q b ≡ true
-  own-open long = also b true (passes (opens? 24 (r .prefix) (blockStart t b)) (opens-own t (r .prefix) h e long))
+  own-open : width < r .prefix .length → Q b ≡ true
+  own-open long = also b true (passes (opens? width (r .prefix) (blockStart t b)) (opens-own t (r .prefix) h e long))
 
   -- a closed block has one cell
-  one-cell : O b ≡ false → (i : ℕ) → i < 256 → cellOf (best rs (blockStart t b + i)) ≡ cellOf (best rs (blockStart t b))
+  one-cell : O b ≡ false → (i : ℕ) → i < blockSize → cellOf (best rs (blockStart t b + i)) ≡ cellOf (best rs (blockStart t b))
   one-cell o i l =
-      let z : blockStart t b % 256 ≡ 0 = omega (arith, aligned h) in
-      ap cellOf (sym (closed 24 rs (blockStart t b) (blockStart t b + i) (lit≤ tt) all o (sym (block-top (blockStart t b) i z l))))
+      let z : blockStart t b % blockSize ≡ 0 = omega (arith, aligned h) in
+      ap cellOf (sym (closed width rs (blockStart t b) (blockStart t b + i) (lit≤ tt) all o (sym (block-top (blockStart t b) i z l))))
 
   abbrev C : ℕ → ℕ
   C a = cellOf (best rs a)
 
-  opened-tables : ¬ ((needsSegment t m (r .prefix) ≡ true) × (noZero (m .owners) ≡ true))
-      → Tables t Q C (opened t (r .prefix) m .first) (opened t (r .prefix) m .long) (opened t (r .prefix) m .owners)
-  unfolding opened openedAt
-  opened-tables room = go (needsSegment t m (r .prefix)) refl (needsSegment? t m (r .prefix)) (noZero (m .owners)) refl
+  opened-tables : ¬ ((needsSegment t (r .prefix) T ≡ true) × (noZero (T .owners) ≡ true))
+      → Holds t Q C (openedFor t (r .prefix) T)
+  unfolding openedFor
+  opened-tables room = go (needsSegment t (r .prefix) T) refl (needsSegment? t (r .prefix) T) (noZero (T .owners)) refl
     where
-      go : (x : Bool) → needsSegment t m (r .prefix) ≡ x → Decides ((24 < r .prefix .length) × (getD (m .first) b 0 < pointerBit)) x
-          → (y : Bool) → noZero (m .owners) ≡ y
-          → Tables t Q C
-          (cond x (openedAt b (lowestFree (m .owners)) m) m .first)
-          (cond x (openedAt b (lowestFree (m .owners)) m) m .long)
-          (cond x (openedAt b (lowestFree (m .owners)) m) m .owners)
+      go : (x : Bool) → needsSegment t (r .prefix) T ≡ x → Decides ((width < r .prefix .length) × (getD (T .first) b 0 < pointerBit)) x
+          → (y : Bool) → noZero (T .owners) ≡ y
+          → Holds t Q C (cond x (openedAt b (lowestFree (T .owners)) T) T)
       go x q (holds n) true z = absurd (room (q, z))
       go x q (holds n) false z =
-          let f = lowest-free (m .owners) z in
-          let o = closed-cell T here (n .1) in
-          open-step T b (lowestFree (m .owners)) here (f .0) o (f .1) (own-open (n .0)) others (one-cell o)
+          let f = lowest-free (T .owners) z in
+          let o = closed-cell H here (n .1) in
+          open-step H b (lowestFree (T .owners)) here (f .0) o (f .1) (own-open (n .0)) others (one-cell o)
       go x q (fails n) y z =
-          retold T (λ k l.
-          by-lt 24 (r .prefix .length)
+          retold H (λ k l.
+          by-lt width (r .prefix .length)
           (λ long.
           by-eq k b
-          (λ j. ap Q j ∙ own-open long ∙ sym (ap O j ∙ open-pointer T here (by-lt (getD (m .first) b 0) pointerBit (λ g. absurd (n (long, g))) (λ g. g))))
+          (λ j. ap Q j ∙ own-open long ∙ sym (ap O j ∙ open-pointer H here (by-lt (getD (T .first) b 0) pointerBit (λ g. absurd (n (long, g))) (λ g. g))))
           (others k))
-          (λ short. also k false (stops (opens? 24 (r .prefix) (blockStart t k)) (λ o. let l = o .long in omega arith))))
+          (λ short. also k false (stops (opens? width (r .prefix) (blockStart t k)) (λ o. let l = o .long in omega arith))))
           (λ a. refl)
 
-  pub announced-tables : ¬ ((needsSegment t m (r .prefix) ≡ true) × (noZero (m .owners) ≡ true)) → AllRoutes (with-route r rs)
-      → TablesOf t (with-route r rs) (repainted t (r .prefix) (λ a. paintCell (r .prefix .length) (pack (r .hop) (r .prefix .length))) (opened t (r .prefix) m))
-  unfolding repainted
+  pub announced-tables : ¬ ((needsSegment t (r .prefix) T ≡ true) × (noZero (T .owners) ≡ true)) → AllRoutes (with-route r rs)
+      → TablesOf t (with-route r rs) (repainted t (r .prefix) (λ a. paintCell (r .prefix .length) (pack (r .hop) (r .prefix .length))) (openedFor t (r .prefix) T))
   announced-tables room all' =
       let painted : (a : ℕ) → cellOf (best (with-route r rs) a)
       ≡ cond (contains (r .prefix) a) (paintCell (r .prefix .length) (pack (r .hop) (r .prefix .length)) (C a)) (C a) =
@@ -101,24 +96,23 @@ module _ (t : Prefix) (r : Route) (rs : List Route) (m : Lent) (T : TablesOf t r
   -- ---- what the count needs: no block closes, and one that was open keeps its pointer
 
   pub only-opening : (k : ℕ) → O k ≡ true → Q k ≡ true
-  only-opening k o = opened-with 24 r rs (blockStart t k) route all ∙ ap (λ (y : Bool). opens 24 (r .prefix) (blockStart t k) || y) o ∙ or-true (opens 24 (r .prefix) (blockStart t k))
+  only-opening k o = opened-with width r rs (blockStart t k) route all ∙ ap (λ (y : Bool). opens width (r .prefix) (blockStart t k) || y) o ∙ or-true (opens width (r .prefix) (blockStart t k))
 
-  opened-first : (k : ℕ) → O k ≡ true → getD (opened t (r .prefix) m .first) k 0 ≡ getD (m .first) k 0
-  unfolding opened openedAt
-  opened-first k o = go (needsSegment t m (r .prefix)) (needsSegment? t m (r .prefix))
+  opened-first : (k : ℕ) → O k ≡ true → getD (openedFor t (r .prefix) T .first) k 0 ≡ getD (T .first) k 0
+  unfolding openedFor openedAt
+  opened-first k o = go (needsSegment t (r .prefix) T) (needsSegment? t (r .prefix) T)
     where
-      go : (x : Bool) → Decides ((24 < r .prefix .length) × (getD (m .first) b 0 < pointerBit)) x
-          → getD (cond x (openedAt b (lowestFree (m .owners)) m) m .first) k 0 ≡ getD (m .first) k 0
+      go : (x : Bool) → Decides ((width < r .prefix .length) × (getD (T .first) b 0 < pointerBit)) x
+          → getD (cond x (openedAt b (lowestFree (T .owners)) T) T .first) k 0 ≡ getD (T .first) k 0
       go x (holds n) =
-          getD-set-other (m .first) b k (pointTo (lowestFree (m .owners))) 0 (λ e. false≢true (sym (closed-cell T here (n .1)) ∙ ap O (sym e) ∙ o))
+          getD-set-other (T .first) b k (pointTo (lowestFree (T .owners))) 0 (λ e. false≢true (sym (closed-cell H here (n .1)) ∙ ap O (sym e) ∙ o))
       go x (fails n) = refl
 
-  pub announced-keeps : ¬ ((needsSegment t m (r .prefix) ≡ true) × (noZero (m .owners) ≡ true)) → (k : ℕ) → k < blocks t → O k ≡ true
-      → getD (repainted t (r .prefix) (λ a. paintCell (r .prefix .length) (pack (r .hop) (r .prefix .length))) (opened t (r .prefix) m) .first) k 0
-      ≡ getD (m .first) k 0
-  unfolding repainted
+  pub announced-keeps : ¬ ((needsSegment t (r .prefix) T ≡ true) × (noZero (T .owners) ≡ true)) → (k : ℕ) → k < blocks t → O k ≡ true
+      → getD (repainted t (r .prefix) (λ a. paintCell (r .prefix .length) (pack (r .hop) (r .prefix .length))) (openedFor t (r .prefix) T) .first) k 0
+      ≡ getD (T .first) k 0
   announced-keeps room k h o =
-      let S = T .open-at k h o in
+      let S = H .open-at k h o in
       pointer-stays (opened-tables room) (r .prefix) (λ a. paintCell (r .prefix .length) (pack (r .hop) (r .prefix .length))) k (S .number) h
       (opened-first k o ∙ S .points)
       ∙ opened-first k o

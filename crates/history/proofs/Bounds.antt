@@ -1,6 +1,6 @@
 -- What a change inside one prefix costs at most: the blocks that the prefix does not touch cost nothing. Assumes nothing.
 use mathlib.Core.Path.{_≡_, sym, ap, subst}
-use mathlib.Core.Logic.{_⊎_, ⊎-elim}
+use mathlib.Core.Logic.{⊎-elim}
 use mathlib.Core.Bool.{Bool, true, false, cond}
 use mathlib.Core.List.{List}
 use Prim.Native.Nat.{ℕ, _+_, _-_, _*_, _^_, _≤_, _<_}
@@ -11,7 +11,7 @@ use Rattle.ground.proofs.Tests.{by-test}
 use Rattle.ground.proofs.Sums.{sum-le, sum-window, sum-const}
 use Rattle.prefix.specs.declared.Prefix.{Prefix}
 use Rattle.prefix.specs.Prefixes.{WellFormed, Contains, Encloses}
-use Rattle.prefix.specs.Geometry.{Territory, blockStart, blockOf, blocks}
+use Rattle.prefix.specs.Geometry.{Territory, blockStart, blockOf, blocks, blockSize, width}
 use Rattle.prefix.specs.Price.{isOpen, differ, blockPrice, price}
 use Rattle.prefix.specs.Routes.{Route, Match, no-route, best}
 use Rattle.prefix.proofs.Blocks.{Opens, same?, differ-same, differ-other, block-none}
@@ -22,8 +22,8 @@ use Rattle.prefix.proofs.Spans.{touches, blocks-inside, opens-only}
 differ-most : (m n : Match) → differ m n ≤ 1
 differ-most m n = by-test (same? m n) (λ e. omega (arith, differ-same m n e)) (λ d. omega (arith, differ-other m n d))
 
-sum-most : (f g : ℕ → Match) → sum 256 (λ i. differ (f i) (g i)) ≤ 256
-sum-most f g = omega (arith, sum-le 256 (λ i. differ (f i) (g i)) (λ i. 1) (λ i h. differ-most (f i) (g i)), sum-const 256 1)
+sum-most : (f g : ℕ → Match) → sum blockSize (λ i. differ (f i) (g i)) ≤ blockSize
+sum-most f g = omega (arith, sum-le blockSize (λ i. differ (f i) (g i)) (λ i. 1) (λ i h. differ-most (f i) (g i)), sum-const blockSize 1)
 
 block-most : (x y : Bool) (rs vs : List Route) (a : ℕ) → blockPrice x y rs vs a ≤ 257
 unfolding blockPrice
@@ -47,7 +47,7 @@ module _ (t p : Prefix) (h : Territory t) (w : WellFormed p) (e : Encloses t p) 
   -- ---- a change of the list that only the addresses of the prefix see
 
   module _ (rs vs : List Route) (local : (a : ℕ) → ¬ Contains p a → best rs a ≡ best vs a)
-      (as-open : (k : ℕ) → ¬ Opens 24 p (blockStart t k) → isOpen vs (blockStart t k) ≡ isOpen rs (blockStart t k)) where
+      (as-open : (k : ℕ) → ¬ Opens width p (blockStart t k) → isOpen vs (blockStart t k) ≡ isOpen rs (blockStart t k)) where
     cost : ℕ → ℕ
     cost k = let a = blockStart t k in blockPrice (isOpen rs a) (isOpen vs a) rs vs a
 
@@ -55,7 +55,7 @@ module _ (t p : Prefix) (h : Territory t) (w : WellFormed p) (e : Encloses t p) 
     unfolding cost
     outside k n =
         block-none _ _ rs vs (blockStart t k)
-        (sym (as-open k (λ o. let q = opens-only t p k h e o in n (omega (arith, pow-pos (24 - p .length))))))
+        (sym (as-open k (λ o. let q = opens-only t p k h e o in n (omega (arith, pow-pos (width - p .length))))))
         (λ i l. local (blockStart t k + i) (λ c. n (touches h w e k i l c)))
 
     price-touched : price t rs vs ≡ sum (blocks p) (λ i. cost (b + i))
@@ -63,17 +63,17 @@ module _ (t p : Prefix) (h : Territory t) (w : WellFormed p) (e : Encloses t p) 
     price-touched =
         sum-window (blocks t) b (blocks p) _ (blocks-inside h w e) (λ k l o. outside k (λ i. ⊎-elim (λ q. omega arith) (λ q. omega arith) o))
 
-    pub long-bound : 24 < p .length → price t rs vs ≤ 257
+    pub long-bound : width < p .length → price t rs vs ≤ 257
     unfolding cost
     long-bound long =
-        let z : 24 - p .length ≡ 0 = omega arith in
+        let z : width - p .length ≡ 0 = omega arith in
         let one : blocks p ≡ 1 = ap (λ (n : ℕ). 2 ^ n) z in
         let most = sum-le (blocks p) (λ i. cost (b + i)) (λ i. 257) (λ i l. block-most _ _ rs vs (blockStart t (b + i))) in
         let c = sum-const (blocks p) 257 in
         let d = ap (λ (n : ℕ). n * 257) one in
         omega (arith, price-touched)
 
-    pub short-bound : (more : ℕ) → 255 ≤ more → p .length ≤ 24 → price t rs vs ≤ sum (blocks p) (λ i. 1 + cond (isOpen rs (blockStart t (b + i))) more 0)
+    pub short-bound : (more : ℕ) → 255 ≤ more → p .length ≤ width → price t rs vs ≤ sum (blocks p) (λ i. 1 + cond (isOpen rs (blockStart t (b + i))) more 0)
     unfolding cost
     short-bound more m s =
         subst (λ (x : ℕ). x ≤ sum (blocks p) (λ i. 1 + cond (isOpen rs (blockStart t (b + i))) more 0)) (sym price-touched)

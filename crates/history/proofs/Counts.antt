@@ -17,13 +17,13 @@ use Rattle.ground.proofs.Lists.{differs-same, differs-other, differing-sum}
 use Rattle.ground.proofs.Sums.{sum-cong, sum-none, sum-groups}
 use Rattle.prefix.specs.declared.Prefix.{Prefix}
 use Rattle.prefix.specs.Price.{isOpen, differ, price}
-use Rattle.prefix.specs.Geometry.{blocks, blockStart}
+use Rattle.prefix.specs.Geometry.{blocks, blockStart, blockSize}
 use Rattle.prefix.specs.Routes.{Route, no-route, best, AllRoutes}
 use Rattle.prefix.proofs.Blocks.{entryDiffers, cell, price-cells, differ-same}
 use Rattle.cells.specs.Cells.{pointTo, cellOf}
-use Rattle.cells.specs.Memory.{Lent}
-use Rattle.updates.specs.Calls.{changed}
-use Rattle.history.proofs.Tables.{Tables, Belongs}
+use Rattle.cells.specs.Memory.{Tables}
+use Rattle.tables.specs.Changes.{changed}
+use Rattle.history.proofs.Holding.{Belongs, Holds}
 use Rattle.history.proofs.Matches.{Good, best-good, cell-direct, cells-differ}
 use Rattle.history.proofs.LiveTables.{TablesOf}
 use Rattle.history.proofs.Owners.{owned, ofOwner, owned-yes, sum-owned}
@@ -38,22 +38,22 @@ abbrev pub Keeps : Prefix → (ℕ → Bool) → (ℕ → Bool) → List ℕ →
 Keeps t O Q first first' = (k : ℕ) → k < blocks t → O k ≡ true → Q k ≡ true → getD first' k 0 ≡ getD first k 0
 
 -- the block that points to a segment owns it
-points-own : {t : Prefix} {O : ℕ → Bool} {C : ℕ → ℕ} {first long owners : List ℕ} → Tables t O C first long owners → (k s : ℕ) → k < blocks t
-    → O k ≡ true → getD first k 0 ≡ pointTo s → (s < length owners) × (getD owners s 0 ≡ k + 1)
-points-own {owners = owners} T k s h o e =
-    let S = T .open-at k h o in
+points-own : {t : Prefix} {O : ℕ → Bool} {C : ℕ → ℕ} {T : Tables} → Holds t O C T → (k s : ℕ) → k < blocks t
+    → O k ≡ true → getD (T .first) k 0 ≡ pointTo s → (s < length (T .owners)) × (getD (T .owners) s 0 ≡ k + 1)
+points-own H k s h o e =
+    let S = H .open-at k h o in
     let n : S .number ≡ s = let q = sym (S .points) ∙ e in omega arith in
     (rw n at (S .lent), rw n at (S .owner))
 
 -- and the segment holds the cells of its addresses
-points-cells : {t : Prefix} {O : ℕ → Bool} {C : ℕ → ℕ} {first long owners : List ℕ} → Tables t O C first long owners → (k s : ℕ) → k < blocks t
-    → O k ≡ true → getD first k 0 ≡ pointTo s → (i : ℕ) → i < 256 → getD long (s * 256 + i) 0 ≡ C (blockStart t k + i)
-points-cells T k s h o e i l =
-    let S = T .open-at k h o in
+points-cells : {t : Prefix} {O : ℕ → Bool} {C : ℕ → ℕ} {T : Tables} → Holds t O C T → (k s : ℕ) → k < blocks t
+    → O k ≡ true → getD (T .first) k 0 ≡ pointTo s → (i : ℕ) → i < blockSize → getD (T .long) (s * blockSize + i) 0 ≡ C (blockStart t k + i)
+points-cells H k s h o e i l =
+    let S = H .open-at k h o in
     let n : S .number ≡ s = let q = sym (S .points) ∙ e in omega arith in
     rw n at (S .cells i l)
 
-module _ (t : Prefix) (rs vs : List Route) (m n : Lent) (all : AllRoutes rs) (all' : AllRoutes vs)
+module _ (t : Prefix) (rs vs : List Route) (m n : Tables) (all : AllRoutes rs) (all' : AllRoutes vs)
     (T : TablesOf t rs m) (U : TablesOf t vs n) (same-owners : length (m .owners) ≡ length (n .owners))
     (keeps : Keeps t (λ k. isOpen rs (blockStart t k)) (λ k. isOpen vs (blockStart t k)) (m .first) (n .first))
     (way : OneWay t (λ k. isOpen rs (blockStart t k)) (λ k. isOpen vs (blockStart t k))) where
@@ -79,8 +79,8 @@ module _ (t : Prefix) (rs vs : List Route) (m n : Lent) (all : AllRoutes rs) (al
   first-sum : differing (m .first) (n .first)
       ≡ sum (blocks t) (λ k. let a = blockStart t k in entryDiffers (isOpen rs a) (isOpen vs a) (best rs a) (best vs a))
   first-sum =
-      differing-sum (m .first) (n .first) (T .firsts ∙ sym (U .firsts))
-      ∙ ap (λ (c : ℕ). sum c (λ i. differs (getD (m .first) i 0) (getD (n .first) i 0))) (T .firsts)
+      differing-sum (m .first) (n .first) (T .sized .firsts ∙ sym (U .sized .firsts))
+      ∙ ap (λ (c : ℕ). sum c (λ i. differs (getD (m .first) i 0) (getD (n .first) i 0))) (T .sized .firsts)
       ∙ sum-cong (blocks t) _ _ (λ k h. first-cell k h (O k) (Q k) refl refl)
 
   -- ---- the long table: a segment belongs to the block that owns it before or after
@@ -90,10 +90,10 @@ module _ (t : Prefix) (rs vs : List Route) (m n : Lent) (all : AllRoutes rs) (al
       → getD (n .owners) s 0 ≡ getD (m .owners) s 0
   same-owner s h x y = go way
     where
-      B : Belongs t O (m .first) (m .owners) s
+      B : Belongs t O m s
       B = T .owned s h x
 
-      D : Belongs t Q (n .first) (n .owners) s
+      D : Belongs t Q n s
       D = U .owned s (rw same-owners at h) y
 
       go : OneWay t O Q → getD (n .owners) s 0 ≡ getD (m .owners) s 0
@@ -118,20 +118,20 @@ module _ (t : Prefix) (rs vs : List Route) (m n : Lent) (all : AllRoutes rs) (al
 
   -- what the cells of the block k cost, in the segment that it has before or after
   segment-price : ℕ → ℕ
-  segment-price k = let a = blockStart t k in sum 256 (λ i. differ (cell (isOpen rs a) rs (a + i)) (cell (isOpen vs a) vs (a + i)))
+  segment-price k = let a = blockStart t k in sum blockSize (λ i. differ (cell (isOpen rs a) rs (a + i)) (cell (isOpen vs a) vs (a + i)))
 
   -- the cells of segment s that differ
   segment-differs : ℕ → ℕ
-  segment-differs s = sum 256 (λ i. differs (getD (m .long) (s * 256 + i) 0) (getD (n .long) (s * 256 + i) 0))
+  segment-differs s = sum blockSize (λ i. differs (getD (m .long) (s * blockSize + i) 0) (getD (n .long) (s * blockSize + i) 0))
 
   -- by what stands in the segment before and after
   differs-by : (s k : ℕ) (x y : Bool) → O k ≡ x → Q k ≡ y
-      → ((i : ℕ) → i < 256 → getD (m .long) (s * 256 + i) 0 ≡ cellOf (cell x rs (blockStart t k + i)))
-      → ((i : ℕ) → i < 256 → getD (n .long) (s * 256 + i) 0 ≡ cellOf (cell y vs (blockStart t k + i)))
+      → ((i : ℕ) → i < blockSize → getD (m .long) (s * blockSize + i) 0 ≡ cellOf (cell x rs (blockStart t k + i)))
+      → ((i : ℕ) → i < blockSize → getD (n .long) (s * blockSize + i) 0 ≡ cellOf (cell y vs (blockStart t k + i)))
       → segment-differs s ≡ segment-price k
   unfolding segment-differs segment-price cell
   differs-by s k x y o q f g =
-      sum-cong 256 _ _ (λ i h.
+      sum-cong blockSize _ _ (λ i h.
       let a = blockStart t k + i in
       ap₂ differs (f i h) (g i h) ∙ cells-differ (cell x rs a) (cell y vs a) (good x rs a all) (good y vs a all')
       ∙ ap₂ (λ (u v : Bool). differ (cell u rs a) (cell v vs a)) (sym o) (sym q))
@@ -145,7 +145,7 @@ module _ (t : Prefix) (rs vs : List Route) (m n : Lent) (all : AllRoutes rs) (al
     h' = rw same-owners at h
 
     -- open before: then its block has it after, or it is free
-    had : (B : Belongs t O (m .first) (m .owners) s) (y : Bool) → Q (B .block) ≡ y → segment-differs s ≡ segment-price (B .block)
+    had : (B : Belongs t O m s) (y : Bool) → Q (B .block) ≡ y → segment-differs s ≡ segment-price (B .block)
     unfolding cell
     had B true q =
         differs-by s (B .block) true true (B .is-open) q (points-cells T (B .block) s (B .inside) (B .is-open) (B .points))
@@ -158,7 +158,7 @@ module _ (t : Prefix) (rs vs : List Route) (m n : Lent) (all : AllRoutes rs) (al
         absurd (false≢true (sym q ∙ ap Q (sym e) ∙ D .is-open))))
 
     -- free before, and its block has it after
-    gets : getD (m .owners) s 0 ≡ 0 → (D : Belongs t Q (n .first) (n .owners) s) (x : Bool) → O (D .block) ≡ x → segment-differs s ≡ segment-price (D .block)
+    gets : getD (m .owners) s 0 ≡ 0 → (D : Belongs t Q n s) (x : Bool) → O (D .block) ≡ x → segment-differs s ≡ segment-price (D .block)
     unfolding cell
     gets z D true o =
         let w = points-own T (D .block) s (D .inside) o (sym (keeps (D .block) (D .inside) o (D .is-open)) ∙ D .points) .1 in
@@ -172,7 +172,7 @@ module _ (t : Prefix) (rs vs : List Route) (m n : Lent) (all : AllRoutes rs) (al
         by-test (eqb? (getD (m .owners) s 0) 0)
         (λ z. by-test (eqb? (getD (n .owners) s 0) 0)
         (λ y.
-        sum-none 256 _ (λ i l. differs-same _ _ (T .free s h z i l ∙ sym (U .free s h' y i l)))
+        sum-none blockSize _ (λ i l. differs-same _ _ (T .free s h z i l ∙ sym (U .free s h' y i l)))
         ∙ sym (ap (ofOwner segment-price) (owner-after s z ∙ y)))
         (λ y.
         let D = U .owned s h' y in
@@ -226,7 +226,7 @@ module _ (t : Prefix) (rs vs : List Route) (m n : Lent) (all : AllRoutes rs) (al
       free s l e = false≢true (sym f ∙ owned-yes (length (m .owners)) owner b s l e)
 
       go : (x y : Bool) → O b ≡ x → Q b ≡ y
-          → sum 256 (λ i. differ (cell x rs (blockStart t b + i)) (cell y vs (blockStart t b + i))) ≡ 0
+          → sum blockSize (λ i. differ (cell x rs (blockStart t b + i)) (cell y vs (blockStart t b + i))) ≡ 0
       go true y o q =
           let S = T .open-at b h o in
           absurd (free (S .number) (S .lent) (owner-before (S .number) (λ z. let w = sym (S .owner) ∙ z in omega arith) ∙ S .owner ∙ add-one b))
@@ -238,16 +238,16 @@ module _ (t : Prefix) (rs vs : List Route) (m n : Lent) (all : AllRoutes rs) (al
           (λ x.
           absurd (free (S .number) l (owner-before (S .number) x
           ∙ sym (same-owner (S .number) l x (λ z. let w = sym (S .owner) ∙ z in omega arith)) ∙ S .owner ∙ add-one b)))
-      go false false o q = sum-none 256 _ (λ i l. differ-same no-route no-route refl)
+      go false false o q = sum-none blockSize _ (λ i l. differ-same no-route no-route refl)
 
   long-sum : differing (m .long) (n .long) ≡ sum (blocks t) segment-price
   unfolding segment-differs
   long-sum =
       let S = length (m .owners) in
-      let e : length (m .long) ≡ S * 256 = T .longs ∙ mul-comm 256 S in
-      differing-sum (m .long) (n .long) (T .longs ∙ ap (λ (k : ℕ). 256 * k) same-owners ∙ sym (U .longs))
+      let e : length (m .long) ≡ S * blockSize = T .sized .longs ∙ mul-comm blockSize S in
+      differing-sum (m .long) (n .long) (T .sized .longs ∙ ap (λ (k : ℕ). blockSize * k) same-owners ∙ sym (U .sized .longs))
       ∙ ap (λ (c : ℕ). sum c (λ i. differs (getD (m .long) i 0) (getD (n .long) i 0))) e
-      ∙ sum-groups S 256 (λ i. differs (getD (m .long) i 0) (getD (n .long) i 0))
+      ∙ sum-groups S blockSize (λ i. differs (getD (m .long) i 0) (getD (n .long) i 0))
       ∙ sum-cong S segment-differs (λ s. ofOwner segment-price (owner s)) segment-is
       ∙ sum-owned S (blocks t) owner segment-price owner-low owner-one
       ∙ sum-cong (blocks t) _ segment-price (λ b h. go b h (owned S owner b) refl)

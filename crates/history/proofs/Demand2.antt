@@ -11,7 +11,7 @@ use Rattle.ground.proofs.Tests.{leb?, ltb?, eqb?, passes, stops}
 use Rattle.prefix.specs.declared.Prefix.{Prefix}
 use Rattle.prefix.specs.Prefixes.{top, Contains}
 use Rattle.prefix.specs.Price.{isOpen}
-use Rattle.prefix.specs.Geometry.{blocks, blockStart, blockOf}
+use Rattle.prefix.specs.Geometry.{blocks, blockStart, blockOf, blockSize, width}
 use Rattle.prefix.specs.Routes.{Route, Match, no-route, via, best, IsBest, none, found}
 use Rattle.prefix.proofs.Prefixes.{in-range}
 use Rattle.prefix.proofs.Best.{best-is}
@@ -25,7 +25,7 @@ use Rattle.prefix.proofs.Spans.{block-inside, aligned}
 use Rattle.cells.specs.Memory.{Lent, IsLent}
 use Rattle.history.specs.History.{History, memory, live, IsAnswer, routed, no-route as unrouted}
 use Rattle.history.proofs.Matches.{Good, best-good, cell-direct}
-use Rattle.history.proofs.Invariant.{Inv}
+use Rattle.history.proofs.Invariant.{Inv, territory}
 use Rattle.history.proofs.Histories.{inv-history}
 
 -- what a match is answered with
@@ -51,47 +51,47 @@ verdict-of limit (via h l) g s =
     )
 
 module _ (t : Prefix) (rs : List Route) (m : Lent) (I : Inv t rs m) (a : ℕ) (c : Contains t a) where
-  stands : Stands (length (m .first)) (length (m .long)) t a
+  stands : Stands (length (m .tables .first)) (length (m .tables .long)) t a
   stands = record {
     lent = record {
-      territory = I .territory;
-      a-cell-a-block = I .tables .firsts;
-      whole-segments = omega (arith, I .tables .longs);
-      not-too-many = omega (arith, I .tables .longs, I .few-owners);
+      territory = territory I;
+      a-cell-a-block = I .tables .sized .firsts;
+      whole-segments = omega (arith, I .tables .sized .longs);
+      not-too-many = omega (arith, I .tables .sized .longs, I .tables .sized .few);
     };
     inside = c;
   }
 
   -- the address in its block
-  in-block : blockStart t (blockOf t a) + a % 256 ≡ a
-  in-block = omega (arith, aligned (I .territory), in-range (I .territory .formed) c .0)
+  in-block : blockStart t (blockOf t a) + a % blockSize ≡ a
+  in-block = omega (arith, aligned (territory I), in-range (territory I .formed) c .0)
 
-  says-best : saysOf (m .long) (a % 256) (getD (m .first) (blockOf t a) 0) ≡ answerOf (best rs a)
+  says-best : saysOf (m .tables .long) (a % blockSize) (getD (m .tables .first) (blockOf t a) 0) ≡ answerOf (best rs a)
   unfolding saysOf
   says-best = go (isOpen rs (blockStart t (blockOf t a))) refl
     where
       here : blockOf t a < blocks t
-      here = block-inside (I .territory) c
+      here = block-inside (territory I) c
 
       good : Good (best rs a)
       good = best-good rs a (I .list .all)
 
       go : (x : Bool) → isOpen rs (blockStart t (blockOf t a)) ≡ x
-          → cond (isPointer (getD (m .first) (blockOf t a) 0))
-          (cond (ltb (segmentOf (getD (m .first) (blockOf t a) 0)) (length (m .long) / 256))
-          (verdictOf 32 (getD (m .long) (segmentOf (getD (m .first) (blockOf t a) 0) * 256 + a % 256) 0)) (refused 4))
-          (verdictOf 24 (getD (m .first) (blockOf t a) 0))
+          → cond (isPointer (getD (m .tables .first) (blockOf t a) 0))
+          (cond (ltb (segmentOf (getD (m .tables .first) (blockOf t a) 0)) (length (m .tables .long) / blockSize))
+          (verdictOf 32 (getD (m .tables .long) (segmentOf (getD (m .tables .first) (blockOf t a) 0) * blockSize + a % blockSize) 0)) (refused 4))
+          (verdictOf width (getD (m .tables .first) (blockOf t a) 0))
           ≡ answerOf (best rs a)
       go true o =
           let S = I .tables .open-at (blockOf t a) here o in
           let q = S .points in
-          let cell = getD (m .first) (blockOf t a) 0 in
+          let cell = getD (m .tables .first) (blockOf t a) 0 in
           let s : segmentOf cell ≡ S .number = omega arith in
           rw (
             passes (leb? pointerBit cell) (omega arith),
             s,
-            passes (ltb? (S .number) (length (m .long) / 256)) (omega (arith, S .lent, I .tables .longs)),
-            S .cells (a % 256) (omega arith),
+            passes (ltb? (S .number) (length (m .tables .long) / blockSize)) (omega (arith, S .lent, I .tables .sized .longs)),
+            S .cells (a % blockSize) (omega arith),
             in-block,
           ) (verdict-of 32 (best rs a) good (at-most (best rs a) good))
         where
@@ -100,31 +100,31 @@ module _ (t : Prefix) (rs : List Route) (m : Lent) (I : Inv t rs m) (a : ℕ) (c
           at-most (via h l) g = g .2
       go false o =
           let A = blockStart t (blockOf t a) in
-          let z : A % 256 ≡ 0 = omega (arith, aligned (I .territory)) in
+          let z : A % blockSize ≡ 0 = omega (arith, aligned (territory I)) in
           let one : best rs A ≡ best rs a =
-          closed 24 rs A a (lit≤ tt) (I .list .all) o (sym (block-top A (a % 256) z (omega arith)) ∙ ap (top 24) in-block) in
-          let cell : getD (m .first) (blockOf t a) 0 ≡ cellOf (best rs a) = I .tables .closed (blockOf t a) here o ∙ ap cellOf one in
+          closed width rs A a (lit≤ tt) (I .list .all) o (sym (block-top A (a % blockSize) z (omega arith)) ∙ ap (top width) in-block) in
+          let cell : getD (m .tables .first) (blockOf t a) 0 ≡ cellOf (best rs a) = I .tables .closed (blockOf t a) here o ∙ ap cellOf one in
           rw (
             cell,
             stops (leb? pointerBit (cellOf (best rs a))) (λ g. omega (arith, cell-direct (best rs a) good)),
-          ) (verdict-of 24 (best rs a) good (short (best rs a) one))
+          ) (verdict-of width (best rs a) good (short (best rs a) one))
         where
-          short : (x : Match) → best rs (blockStart t (blockOf t a)) ≡ x → AtMost 24 x
+          short : (x : Match) → best rs (blockStart t (blockOf t a)) ≡ x → AtMost width x
           short no-route e = tt
-          short (via h l) e = closed-short 24 rs (blockStart t (blockOf t a)) h l (I .list .all) o e
+          short (via h l) e = closed-short width rs (blockStart t (blockOf t a)) h l (I .list .all) o e
 
-  look-up-best : lookUp (m .first) (m .long) t a ≡ answerOf (best rs a)
+  look-up-best : lookUp (m .tables .first) (m .tables .long) t a ≡ answerOf (best rs a)
   unfolding lookUp
-  look-up-best = sym (goes-on refused (length (m .first)) (length (m .long)) t a _ stands) ∙ says-best
+  look-up-best = sym (goes-on refused (length (m .tables .first)) (length (m .tables .long)) t a _ stands) ∙ says-best
 
-  is-answer : IsAnswer rs a (lookUp (m .first) (m .long) t a)
+  is-answer : IsAnswer rs a (lookUp (m .tables .first) (m .tables .long) t a)
   is-answer = go (best-is rs a)
     where
-      go : IsBest rs a (best rs a) → IsAnswer rs a (lookUp (m .first) (m .long) t a)
+      go : IsBest rs a (best rs a) → IsAnswer rs a (lookUp (m .tables .first) (m .tables .long) t a)
       go (none e n) = unrouted n (look-up-best ∙ ap answerOf e)
       go (found r e l) = routed r l (look-up-best ∙ ap answerOf e)
 
 -- Demand 2.
 pub demand-2 : (t : Prefix) (m : Lent) → IsLent m t → (h : History) (a : ℕ) → Contains t a
-    → IsAnswer (live t m h) a (lookUp (memory t m h .first) (memory t m h .long) t a)
+    → IsAnswer (live t m h) a (lookUp (memory t m h .tables .first) (memory t m h .tables .long) t a)
 demand-2 t m l h a c = is-answer t (live t m h) (memory t m h) (inv-history t m l h) a c

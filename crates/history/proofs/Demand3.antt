@@ -4,155 +4,147 @@
 use mathlib.Core.Path.{_≡_, refl, sym, ap, subst, _∙_}
 use mathlib.Core.Bool.{Bool, true, false, cond, _||_, true≢false}
 use mathlib.Core.List.{List, List·Memᴰ as Mem}
-use Prim.Native.Nat.{ℕ, _≤_, _<_}
+use Prim.Native.Nat.{ℕ, _≤_}
 use native.Mathlib.Omega.{arith}
 use lib.Dec.{eqb}
-use lib.ListN.{getD}
 use Rattle.ground.proofs.Tests.{Decides, holds, fails, eqb?, stops}
+use Rattle.history.proofs.LiveTables.{TablesOf}
+use Rattle.updates.specs.Effects.{retabled, effect}
 use Rattle.ground.proofs.Lists.{differing-refl}
 use Rattle.prefix.specs.declared.Prefix.{Prefix}
-use Rattle.prefix.specs.Prefixes.{Contains}
+use Rattle.prefix.specs.Prefixes.{Contains, WellFormed, Encloses}
 use Rattle.prefix.specs.Price.{isOpen, price}
-use Rattle.prefix.specs.Geometry.{blocks, blockStart}
-use Rattle.prefix.specs.Routes.{Route, best, with-route, without}
+use Rattle.prefix.specs.Geometry.{blockStart, width}
+use Rattle.prefix.specs.Routes.{Route, best, named, Change, applied, puts, takes}
 use Rattle.prefix.proofs.Best.{better-off}
 use Rattle.prefix.proofs.Changes.{best-with, with-same, without-other}
 use Rattle.prefix.proofs.Blocks.{Opens, opens?, opened-with, opened-without-other, price-none}
-use Rattle.rules.proofs.Indices.{IsLive}
 use Rattle.cells.specs.Memory.{Lent, IsLent}
-use Rattle.refusals.specs.Codes.{announceCode, withdrawCode, reHomeCode}
-use Rattle.updates.specs.Effects.{listing, announced, closed, repainted, withdrawn}
-use Rattle.tables.specs.Cellwise.{unpaintCell}
-use Rattle.updates.specs.Calls.{changed, accepted, refused, outcome, announce, withdraw, reHome}
+use Rattle.refusals.specs.Codes.{Call, announces, change, code}
+use Rattle.tables.specs.Changes.{changed}
+use Rattle.updates.specs.Calls.{accepted, refused, outcome, step}
 use Rattle.history.specs.Costs.{shortMost, Costs}
-use Rattle.history.specs.History.{Call, announces, withdraws, re-homes, named, History, _then_, memory, report, isAccepted, live}
+use Rattle.history.specs.History.{History, _then_, memory, report, isAccepted, live}
 use Rattle.history.proofs.Announcing.{only-opening, announced-keeps}
 use Rattle.history.proofs.Withdrawing.{only-closing, withdrawn-keeps}
-use Rattle.history.proofs.Counts.{opening, closing, count-is-price}
+use Rattle.history.proofs.Counts.{opening, closing, count-is-price, OneWay, Keeps}
 use Rattle.history.proofs.Bounds.{long-bound, short-bound}
-use Rattle.history.proofs.Invariant.{Inv, live-routes, announce-keeps, announced-owners, withdraw-keeps, withdrawn-owners}
-use Rattle.history.proofs.Histories.{Announces, announces-of, re-homes-of, Withdraws, withdraws-of, inv-history}
+use Rattle.history.proofs.Invariant.{Inv, live-routes, Makes, keeps, territory, retabled-owners}
+use Rattle.history.proofs.Histories.{inv-history, makes}
 
 -- a refusal answers 0 cells and the memory as it was
-kept : (code : ℕ) (m n : Lent) → eqb (outcome code m n .report .code) 0 ≡ false
-    → (outcome code m n .report .cells ≡ 0) × (outcome code m n .lent ≡ m)
-kept code m n = go (eqb code 0)
+kept : (number : ℕ) (m n : Lent) → eqb (outcome number m n .report .code) 0 ≡ false
+    → (outcome number m n .report .cells ≡ 0) × (outcome number m n .lent ≡ m)
+kept number m n = go (eqb number 0)
   where
-    go : (x : Bool) → eqb (cond x (accepted m n) (refused code m) .report .code) 0 ≡ false
-        → (cond x (accepted m n) (refused code m) .report .cells ≡ 0) × (cond x (accepted m n) (refused code m) .lent ≡ m)
+    go : (x : Bool) → eqb (cond x (accepted m n) (refused number m) .report .code) 0 ≡ false
+        → (cond x (accepted m n) (refused number m) .report .cells ≡ 0) × (cond x (accepted m n) (refused number m) .lent ≡ m)
     go true e = absurd (true≢false e)
     go false e = (refl, refl)
 
--- ---- an accepted announce or re-home
+-- ---- an accepted change
 
-module _ (t : Prefix) (r : Route) (rs : List Route) (m : Lent) (I : Inv t rs m) (A : Announces t r rs m) where
-  announced-price : changed m (announced t r m) ≡ price t rs (with-route r rs)
-  unfolding announced listing
-  announced-price =
-      let J = announce-keeps t r rs m I (A .route) (A .inside) (A .room) (A .free) in
-      count-is-price t rs (with-route r rs) m (announced t r m) (I .list .all) (J .list .all) (I .tables) (J .tables) (sym (announced-owners t r m))
-      (λ k h o q. announced-keeps t r rs m (I .tables) (I .territory) (A .route) (A .inside) (I .list .all) (A .free) k h o)
-      (opening (λ k h o. only-opening t r rs m (I .tables) (I .territory) (A .route) (A .inside) (I .list .all) k o))
+-- what the count and the bounds need of it: only the addresses of its prefix see it, a block that its prefix does not open is as open as it was,
+-- blocks only open or only close, and one that is open both times keeps its first cell
+pub record Local (t : Prefix) (c : Change) (rs : List Route) (m : Lent) : Type 0 where
+  pub elsewhere : (a : ℕ) → ¬ Contains (named c) a → best rs a ≡ best (applied c rs) a
+  pub as-open : (k : ℕ) → ¬ Opens width (named c) (blockStart t k) → isOpen (applied c rs) (blockStart t k) ≡ isOpen rs (blockStart t k)
+  pub way : OneWay t (λ k. isOpen rs (blockStart t k)) (λ k. isOpen (applied c rs) (blockStart t k))
+  pub pointers : Keeps t (λ k. isOpen rs (blockStart t k)) (λ k. isOpen (applied c rs) (blockStart t k)) (m .tables .first)
+      (retabled t c (applied c rs) (m .tables) .first)
+  pub formed : WellFormed (named c)
+  pub inside : Encloses t (named c)
 
-  announce-costs : Costs t (r .prefix) rs (with-route r rs) m (announced t r m) (changed m (announced t r m))
+local : (t : Prefix) (c : Change) (rs : List Route) (m : Lent) → Inv t rs m → Makes t c rs m → Local t c rs m
+unfolding retabled
+local t (puts r) rs m I A = record {
+  elsewhere = λ a n. sym (best-with r rs a (A .route) (I .list .all) ∙ better-off r a (best rs a) n);
+  as-open = λ k n.
+      opened-with width r rs (blockStart t k) (A .route) (I .list .all)
+      ∙ ap (λ (y : Bool). y || isOpen rs (blockStart t k)) (stops (opens? width (r .prefix) (blockStart t k)) n);
+  way = opening (λ k h o. only-opening t r rs (m .tables) (I .tables) (territory I) (A .route) (A .inside) (I .list .all) k o);
+  pointers = λ k h o q. announced-keeps t r rs (m .tables) (I .tables) (territory I) (A .route) (A .inside) (I .list .all) (A .free) k h o;
+  formed = A .route .formed;
+  inside = A .inside;
+}
+local t (takes p) rs m I A =
+    let L = A .lives in
+    record {
+      elsewhere = λ a n. sym (without-other p rs a (I .list .all) (I .list .order) (A .formed) (λ c. n (c .0)));
+      as-open = λ k n. opened-without-other width p rs (blockStart t k) (I .list .all) (A .formed) n;
+      way = closing (λ k h q.
+          only-closing t p rs (m .tables) (I .tables) (territory I) (A .formed) (A .inside) (I .list .all) (I .list .order) (L .0) (L .1) (L .2) k q);
+      pointers = λ k h o q.
+          withdrawn-keeps t p rs (m .tables) (I .tables) (territory I) (A .formed) (A .inside) (I .list .all) (I .list .order) (L .0) (L .1) (L .2) k h o q;
+      formed = A .formed;
+      inside = A .inside;
+    }
+
+module _ (t : Prefix) (c : Change) (rs : List Route) (m : Lent) (I : Inv t rs m) (A : Makes t c rs m) where
+  abbrev vs : List Route
+  vs = applied c rs
+
+  abbrev L : Local t c rs m
+  L = local t c rs m I A
+
+  -- the tables that it leaves, by the list in place of the words
+  left-tables : effect t c m .tables ≡ retabled t c vs (m .tables)
+  unfolding effect
+  left-tables = ap (λ (x : List Route). retabled t c (applied c x) (m .tables)) (live-routes I)
+
+  counted : changed (m .tables) (effect t c m .tables) ≡ price t rs vs
+  counted =
+      let J = keeps t c rs m I A in
+      ap (changed (m .tables)) left-tables
+      ∙ count-is-price t rs vs (m .tables) (retabled t c vs (m .tables)) (I .list .all) (J .list .all) (I .tables)
+      (subst (TablesOf t vs) left-tables (J .tables)) (sym (retabled-owners t c vs (m .tables))) (L .pointers) (L .way)
+
+  change-costs : Costs t (named c) rs vs m (effect t c m) (changed (m .tables) (effect t c m .tables))
   unfolding shortMost
-  announce-costs = record {
+  change-costs = record {
     differing = refl;
-    priced = announced-price;
-    long = λ l. omega (arith, announced-price, long-bound t (r .prefix) (I .territory) (A .route .formed) (A .inside) rs (with-route r rs) local as-open l);
-    short = λ s. subst (λ (x : ℕ). x ≤ shortMost t (r .prefix) rs) (sym announced-price) (short-bound t (r .prefix) (I .territory) (A .route .formed) (A .inside) rs (with-route r rs) local as-open _ (omega arith) s);
+    priced = counted;
+    long = λ l. omega (arith, counted, long-bound t (named c) (territory I) (L .formed) (L .inside) rs vs (L .elsewhere) (L .as-open) l);
+    short = λ s. subst (λ (x : ℕ). x ≤ shortMost t (named c) rs) (sym counted) (short-bound t (named c) (territory I) (L .formed) (L .inside) rs vs (L .elsewhere) (L .as-open) _ (omega arith) s);
   }
-    where
-      local : (a : ℕ) → ¬ Contains (r .prefix) a → best rs a ≡ best (with-route r rs) a
-      local a n = sym (best-with r rs a (A .route) (I .list .all) ∙ better-off r a (best rs a) n)
-
-      as-open : (k : ℕ) → ¬ Opens 24 (r .prefix) (blockStart t k) → isOpen (with-route r rs) (blockStart t k) ≡ isOpen rs (blockStart t k)
-      as-open k n =
-          opened-with 24 r rs (blockStart t k) (A .route) (I .list .all)
-          ∙ ap (λ (y : Bool). y || isOpen rs (blockStart t k)) (stops (opens? 24 (r .prefix) (blockStart t k)) n)
-
--- ---- an accepted withdraw
-
-module _ (t p : Prefix) (rs : List Route) (m : Lent) (I : Inv t rs m) (W : Withdraws t p rs) where
-  abbrev L : IsLive p rs
-  L = W .lives
-
-  withdrawn-pointers : (k : ℕ) → k < blocks t → isOpen rs (blockStart t k) ≡ true → isOpen (without p rs) (blockStart t k) ≡ true
-      → getD (withdrawn t p m .first) k 0 ≡ getD (m .first) k 0
-  unfolding withdrawn listing
-  withdrawn-pointers k h o q =
-      subst (λ (x : List Route). getD (closed t p (without p x) (repainted t p (unpaintCell (p .length) (without p x)) m) .first) k 0 ≡ getD (m .first) k 0)
-      (sym (live-routes I))
-      (withdrawn-keeps t p rs m (I .tables) (I .territory) (W .formed) (W .inside) (I .list .all) (I .list .order) (L .0) (L .1) (L .2) k h o q)
-
-  withdrawn-price : changed m (withdrawn t p m) ≡ price t rs (without p rs)
-  withdrawn-price =
-      let J = withdraw-keeps t p rs m I (W .formed) (W .inside) (W .lives) in
-      count-is-price t rs (without p rs) m (withdrawn t p m) (I .list .all) (J .list .all) (I .tables) (J .tables) (sym (withdrawn-owners t p m))
-      withdrawn-pointers
-      (closing (λ k h q.
-      only-closing t p rs m (I .tables) (I .territory) (W .formed) (W .inside) (I .list .all) (I .list .order) (L .0) (L .1) (L .2) k q))
-
-  withdraw-costs : Costs t p rs (without p rs) m (withdrawn t p m) (changed m (withdrawn t p m))
-  unfolding shortMost
-  withdraw-costs = record {
-    differing = refl;
-    priced = withdrawn-price;
-    long = λ l. omega (arith, withdrawn-price, long-bound t p (I .territory) (W .formed) (W .inside) rs (without p rs) local as-open l);
-    short = λ s. subst (λ (x : ℕ). x ≤ shortMost t p rs) (sym withdrawn-price) (short-bound t p (I .territory) (W .formed) (W .inside) rs (without p rs) local as-open _ (omega arith) s);
-  }
-    where
-      local : (a : ℕ) → ¬ Contains p a → best rs a ≡ best (without p rs) a
-      local a n = sym (without-other p rs a (I .list .all) (I .list .order) (W .formed) (λ c. n (c .0)))
-
-      as-open : (k : ℕ) → ¬ Opens 24 p (blockStart t k) → isOpen (without p rs) (blockStart t k) ≡ isOpen rs (blockStart t k)
-      as-open k n = opened-without-other 24 p rs (blockStart t k) (I .list .all) (W .formed) n
 
 -- ---- every update of every history
 
 -- a call that is accepted costs what its change costs, and one that is refused costs nothing
-costs-stepped : (t p : Prefix) (rs rs' : List Route) (m n : Lent) (code : ℕ) → (code ≡ 0 → Costs t p rs rs' m n (changed m n))
-    → Costs t p rs (cond (eqb (outcome code m n .report .code) 0) rs' rs) m (outcome code m n .lent) (outcome code m n .report .cells)
-costs-stepped t p rs rs' m n code costs = go (eqb code 0) (eqb? code 0)
+costs-stepped : (t p : Prefix) (rs us : List Route) (m n : Lent) (number : ℕ) → (number ≡ 0 → Costs t p rs us m n (changed (m .tables) (n .tables)))
+    → Costs t p rs (cond (eqb (outcome number m n .report .code) 0) us rs) m (outcome number m n .lent) (outcome number m n .report .cells)
+costs-stepped t p rs us m n number costs = go (eqb number 0) (eqb? number 0)
   where
     nothing : Costs t p rs rs m m 0
     nothing = record {
-      differing = omega (arith, differing-refl (m .first), differing-refl (m .long));
+      differing = omega (arith, differing-refl (m .tables .first), differing-refl (m .tables .long));
       priced = sym (price-none t rs);
       long = λ l. omega arith;
       short = λ s. omega arith;
     }
 
-    go : (x : Bool) → Decides (code ≡ 0) x
-        → Costs t p rs (cond (eqb (cond x (accepted m n) (refused code m) .report .code) 0) rs' rs) m
-        (cond x (accepted m n) (refused code m) .lent) (cond x (accepted m n) (refused code m) .report .cells)
+    go : (x : Bool) → Decides (number ≡ 0) x
+        → Costs t p rs (cond (eqb (cond x (accepted m n) (refused number m) .report .code) 0) us rs) m
+        (cond x (accepted m n) (refused number m) .lent) (cond x (accepted m n) (refused number m) .report .cells)
     go x (holds z) = costs z
-    go x (fails f) = rw (stops (eqb? code 0) f) nothing
+    go x (fails f) = rw (stops (eqb? number 0) f) nothing
 
 -- Demand 3.
 pub demand-3 : (t : Prefix) (m : Lent) → IsLent m t → (h : History) (c : Call)
-    → Costs t (named c) (live t m h) (live t m (h then c)) (memory t m h) (memory t m (h then c)) (report t m h c .cells)
-unfolding memory live isAccepted report announce withdraw reHome
-demand-3 t m l h (announces r) =
+    → Costs t (named (change c)) (live t m h) (live t m (h then c)) (memory t m h) (memory t m (h then c)) (report t m h c .cells)
+unfolding memory live isAccepted report step
+demand-3 t m l h c =
     let I = inv-history t m l h in
-    costs-stepped t (r .prefix) (live t m h) (with-route r (live t m h)) (memory t m h) (announced t r (memory t m h)) (announceCode t (memory t m h) r)
-    (λ e. announce-costs t r (live t m h) (memory t m h) I (announces-of t (live t m h) (memory t m h) I r e))
-demand-3 t m l h (withdraws p) =
-    let I = inv-history t m l h in
-    costs-stepped t p (live t m h) (without p (live t m h)) (memory t m h) (withdrawn t p (memory t m h)) (withdrawCode t (memory t m h) p)
-    (λ e. withdraw-costs t p (live t m h) (memory t m h) I (withdraws-of t (live t m h) (memory t m h) I p e))
-demand-3 t m l h (re-homes r) =
-    let I = inv-history t m l h in
-    costs-stepped t (r .prefix) (live t m h) (with-route r (live t m h)) (memory t m h) (announced t r (memory t m h)) (reHomeCode t (memory t m h) r)
-    (λ e. announce-costs t r (live t m h) (memory t m h) I (re-homes-of t (live t m h) (memory t m h) I r e))
+    let rs = live t m h in
+    let n = memory t m h in
+    costs-stepped t (named (change c)) rs (applied (change c) rs) n (effect t (change c) n) (code t c n)
+    (λ e. change-costs t (change c) rs n I (makes t rs n I c e))
 
 -- a refused update costs 0 and leaves every lent word as it was
 pub refused-nothing : (t : Prefix) (m : Lent) (h : History) (c : Call) → isAccepted t m h c ≡ false
     → (report t m h c .cells ≡ 0) × (memory t m (h then c) ≡ memory t m h)
-unfolding memory isAccepted report announce withdraw reHome
-refused-nothing t m h (announces r) e = kept (announceCode t (memory t m h) r) (memory t m h) (announced t r (memory t m h)) e
-refused-nothing t m h (withdraws p) e = kept (withdrawCode t (memory t m h) p) (memory t m h) (withdrawn t p (memory t m h)) e
-refused-nothing t m h (re-homes r) e = kept (reHomeCode t (memory t m h) r) (memory t m h) (announced t r (memory t m h)) e
+unfolding memory isAccepted report step
+refused-nothing t m h c e = kept (code t c (memory t m h)) (memory t m h) (effect t (change c) (memory t m h)) e
 
 -- Announcing a live prefix with the same hop costs 0.
 pub same-hop : (t : Prefix) (m : Lent) → IsLent m t → (h : History) (r : Route) → Mem r (live t m h) → report t m h (announces r) .cells ≡ 0

@@ -11,23 +11,21 @@ use Rattle.ground.proofs.Tests.{eqb?, stops}
 use Rattle.ground.proofs.Cases.{by-lt}
 use Rattle.prefix.specs.declared.Prefix.{Prefix}
 use Rattle.prefix.specs.Prefixes.{key, WellFormed, Encloses}
-use Rattle.prefix.specs.Geometry.{Territory, blockStart, blockOf}
+use Rattle.prefix.specs.Geometry.{Territory, blockStart, blockOf, blockSize}
 use Rattle.prefix.specs.Price.{opened as opened-run}
-use Rattle.prefix.specs.Routes.{Route, best, with-route, without, keep, other, IsRoute, AllRoutes, Ascending}
+use Rattle.prefix.specs.Routes.{Route, best, with-route, without, keep, other, IsRoute, AllRoutes, Ascending, Change, applied, puts, takes}
 use Rattle.prefix.proofs.Changes.{with-cases, keep-cases, with-mem, with-routes, with-ascending, without-mem, without-routes, without-ascending}
 use Rattle.rules.specs.Words.{wordOf}
 use Rattle.rules.specs.Rules.{routes, wordsOf, isLive}
 use Rattle.rules.proofs.RouteWords.{routes-words, length-words-of}
 use Rattle.rules.proofs.Words.{some-route}
-use Rattle.cells.specs.Memory.{Lent, lowestFree, IsLent}
-use Rattle.refusals.specs.Codes.{noZero, needsSegment}
-use Rattle.updates.proofs.Putting.{opened-rules}
-use Rattle.updates.proofs.Taking.{closed-rules}
-use Rattle.updates.specs.Effects.{cleared, listing, announced, withdrawn, closes, closed, closedAt, opened, openedAt, repainted}
-use Rattle.tables.specs.Cellwise.{paintCell, unpaintCell}
-use Rattle.cells.specs.Cells.{pack, segmentOf, cellOf}
+use Rattle.cells.specs.Memory.{Lent, lowestFree, IsLent, noZero, needsSegment, Tables, mostRules}
+use Rattle.updates.specs.Effects.{cleared, retabled, effect}
+use Rattle.tables.specs.Changes.{closes, closedAt, openedAt, closedFor, openedFor}
+use Rattle.tables.specs.Cellwise.{repainted, unpaintCell}
+use Rattle.cells.specs.Cells.{segmentOf, cellOf}
 use Rattle.rules.proofs.Indices.{IsLive}
-use Rattle.history.proofs.Tables.{retold, cleared-tables}
+use Rattle.history.proofs.Holding.{retold, cleared-tables}
 use Rattle.history.proofs.LiveTables.{TablesOf}
 use Rattle.history.proofs.Announcing.{announced-tables}
 use Rattle.history.proofs.Withdrawing.{withdrawn-tables}
@@ -39,13 +37,14 @@ pub record Listing (t : Prefix) (rs : List Route) : Type 0 where
   pub inside : (r : Route) → Mem r rs → Encloses t (r .prefix)
 
 pub record Inv (t : Prefix) (rs : List Route) (m : Lent) : Type 0 where
-  pub territory : Territory t
   pub list : Listing t rs
-  pub few-owners : length (m .owners) ≤ 32768
-  pub few-rules : length (m .rules) ≤ 65536
+  pub few-rules : length (m .rules) ≤ mostRules
   pub room : length rs ≤ length (m .rules)
   pub words : m .rules ≡ wordsOf (length (m .rules)) rs
-  pub tables : TablesOf t rs m
+  pub tables : TablesOf t rs (m .tables)
+
+pub territory : {t : Prefix} {rs : List Route} {m : Lent} → Inv t rs m → Territory t
+territory I = I .tables .sized .territory
 
 -- ---- cleared memory
 
@@ -60,22 +59,26 @@ zero-at n i = by-lt i n (λ h. getD-replicate n i 0 0 h) (λ h. List·getD-eq-de
 
 pub inv-start : (t : Prefix) (m : Lent) → IsLent m t → Inv t [] (cleared m)
 unfolding cleared wordsOf opened-run best
-inv-start t m l = record {
-  territory = l .territory;
-  list = record { all = λ r i. absurd (List·Memᴰ·not-nil i); order = tt; inside = λ r i. absurd (List·Memᴰ·not-nil i) };
-  few-owners = omega (arith, length-zeros (length (m .owners)), l .few-segments);
-  few-rules = omega (arith, length-zeros (length (m .rules)), l .few-rules);
-  room = omega arith;
-  words =
-      let n : length (zeros (length (m .rules))) - 0 ≡ length (m .rules) = omega (arith, length-zeros (length (m .rules))) in
-      ap zeros (sym n);
-  tables =
-      retold (cleared-tables t (zeros (length (m .first))) (zeros (length (m .long))) (zeros (length (m .owners)))
-      (length-zeros (length (m .first)) ∙ l .a-cell-a-block)
-      (length-zeros (length (m .long)) ∙ l .whole-segments ∙ ap (λ (k : ℕ). 256 * k) (sym (length-zeros (length (m .owners)))))
-      (zero-at (length (m .first))) (zero-at (length (m .long))) (zero-at (length (m .owners))))
-      (λ k h. refl) (λ a. refl);
-}
+inv-start t m l =
+    let T = m .tables in
+    record {
+      list = record { all = λ r i. absurd (List·Memᴰ·not-nil i); order = tt; inside = λ r i. absurd (List·Memᴰ·not-nil i) };
+      few-rules = omega (arith, length-zeros (length (m .rules)), l .few-rules);
+      room = omega arith;
+      words =
+          let n : length (zeros (length (m .rules))) - 0 ≡ length (m .rules) = omega (arith, length-zeros (length (m .rules))) in
+          ap zeros (sym n);
+      tables =
+          retold (cleared-tables
+          (record {
+            territory = l .sized .territory;
+            firsts = length-zeros (length (T .first)) ∙ l .sized .firsts;
+            longs = length-zeros (length (T .long)) ∙ l .sized .longs ∙ ap (λ (k : ℕ). blockSize * k) (sym (length-zeros (length (T .owners))));
+            few = omega (arith, length-zeros (length (T .owners)), l .sized .few);
+          })
+          (zero-at (length (T .first))) (zero-at (length (T .long))) (zero-at (length (T .owners))))
+          (λ k h. refl) (λ a. refl);
+    }
 
 -- ---- a route put in
 
@@ -134,74 +137,64 @@ one-more {t} {rs} {m} I e =
 pub live-routes : {t : Prefix} {rs : List Route} {m : Lent} → Inv t rs m → routes (m .rules) ≡ rs
 live-routes {t} {rs} {m} I = ap routes (I .words) ∙ routes-words (length (m .rules)) rs (I .list .all)
 
--- tables of a list, with the words of that list
-listed : (t : Prefix) (rs : List Route) (m : Lent) → Territory t → Listing t rs → length (m .owners) ≤ 32768 → length (m .rules) ≤ 65536
-    → length rs ≤ length (m .rules) → TablesOf t rs m → Inv t rs (listing rs m)
-unfolding listing
-listed t rs m h L o u room T =
-    let n = length-words-of (length (m .rules)) rs room in
-    record {
-      territory = h;
-      list = L;
-      few-owners = o;
-      few-rules = omega (arith, n);
-      room = omega (arith, n);
-      words = ap (λ (k : ℕ). wordsOf k rs) (sym n);
-      tables = T;
-    }
+-- ---- each accepted change keeps the invariant
 
--- ---- each accepted call keeps the invariant
+-- with the list that it makes: the rule words are those of that list, and what is left is the tables
+module _ (t : Prefix) (c : Change) (rs : List Route) (m : Lent) (I : Inv t rs m) where
+  changed-inv : Listing t (applied c rs) → length (applied c rs) ≤ length (m .rules)
+      → TablesOf t (applied c rs) (retabled t c (applied c rs) (m .tables)) → Inv t (applied c rs) (effect t c m)
+  unfolding effect
+  changed-inv L room H =
+      subst (λ (x : List Route). Inv t (applied c rs) (record { tables = retabled t c (applied c x) (m .tables); rules = wordsOf (length (m .rules)) (applied c x) }))
+      (sym (live-routes I))
+      (let n = length-words-of (length (m .rules)) (applied c rs) room in
+      record {
+        list = L;
+        few-rules = omega (arith, n, I .few-rules);
+        room = omega (arith, n);
+        words = ap (λ (k : ℕ). wordsOf k (applied c rs)) (sym n);
+        tables = H;
+      })
 
--- opening changes not how many owner words there are
-opened-owners : (t p : Prefix) (m : Lent) → length (opened t p m .owners) ≡ length (m .owners)
-unfolding opened openedAt
-opened-owners t p m = go (needsSegment t m p)
-  where
-    go : (x : Bool) → length (cond x (openedAt (blockOf t (p .address)) (lowestFree (m .owners)) m) m .owners) ≡ length (m .owners)
-    go true = length-set (m .owners) (lowestFree (m .owners)) (blockOf t (p .address) + 1)
-    go false = refl
+-- a route that may be put in
+pub record Puts (t : Prefix) (r : Route) (rs : List Route) (m : Lent) : Type 0 where
+  pub route : IsRoute r
+  pub inside : Encloses t (r .prefix)
+  pub room : ¬ ((isLive (r .prefix) rs ≡ false) × (noZero (m .rules) ≡ true))
+  pub free : ¬ ((needsSegment t (r .prefix) (m .tables) ≡ true) × (noZero (m .tables .owners) ≡ true))
 
-module _ (t : Prefix) (r : Route) (rs : List Route) (m : Lent) (I : Inv t rs m) (route : IsRoute r) (e : Encloses t (r .prefix)) where
+-- a prefix that may be taken out
+pub record Takes (t p : Prefix) (rs : List Route) : Type 0 where
+  pub formed : WellFormed p
+  pub inside : Encloses t p
+  pub lives : IsLive p rs
+
+-- a change that may be made
+abbrev pub Makes : Prefix → Change → List Route → Lent → Type 0
+Makes t (puts r) rs m = Puts t r rs m
+Makes t (takes p) rs m = Takes t p rs
+
+module _ (t : Prefix) (r : Route) (rs : List Route) (m : Lent) (I : Inv t rs m) (A : Puts t r rs m) where
   with-listing : Listing t (with-route r rs)
   with-listing = record {
-    all = with-routes r rs (I .list .order) route (I .list .all);
+    all = with-routes r rs (I .list .order) (A .route) (I .list .all);
     order = with-ascending r rs (I .list .order);
-    inside = λ s i. elim (with-mem r rs (I .list .order) i) [ inl q ↦ subst (λ (x : Route). Encloses t (x .prefix)) (sym q) e | inr o ↦ I .list .inside s (o .0) ];
+    inside = λ s i. elim (with-mem r rs (I .list .order) i) [ inl q ↦ subst (λ (x : Route). Encloses t (x .prefix)) (sym q) (A .inside) | inr o ↦ I .list .inside s (o .0) ];
   }
 
-  with-room : ¬ ((isLive (r .prefix) rs ≡ false) × (noZero (m .rules) ≡ true)) → length (with-route r rs) ≤ length (m .rules)
-  with-room room = go (isLive (r .prefix) rs) refl (noZero (m .rules)) refl
+  with-room : length (with-route r rs) ≤ length (m .rules)
+  with-room = go (isLive (r .prefix) rs) refl (noZero (m .rules)) refl
     where
       go : (x : Bool) → isLive (r .prefix) rs ≡ x → (y : Bool) → noZero (m .rules) ≡ y → length (with-route r rs) ≤ length (m .rules)
       go true p y q = omega (arith, length-live r rs (I .list .order) p, I .room)
-      go false p true q = absurd (room (p, q))
+      go false p true q = absurd (A .room (p, q))
       go false p false q = omega (arith, length-with r rs, one-more I q)
 
-  pub announce-keeps : ¬ ((isLive (r .prefix) rs ≡ false) × (noZero (m .rules) ≡ true))
-      → ¬ ((needsSegment t m (r .prefix) ≡ true) × (noZero (m .owners) ≡ true)) → Inv t (with-route r rs) (announced t r m)
-  unfolding announced repainted
-  announce-keeps room free =
-      let l = r .prefix .length in
-      let T = announced-tables t r rs m (I .tables) (I .territory) route e (I .list .all) free (with-listing .all) in
-      let m1 = repainted t (r .prefix) (λ a. paintCell l (pack (r .hop) l)) (opened t (r .prefix) m) in
-      let u = ap (λ (x : List ℕ). length x) (opened-rules t (r .prefix) m) in
-      let o = opened-owners t (r .prefix) m in
-      subst (λ (x : List Route). Inv t (with-route r rs) (listing (with-route r x) m1)) (sym (live-routes I))
-      (listed t (with-route r rs) m1 (I .territory) with-listing (omega (arith, I .few-owners)) (omega (arith, I .few-rules))
-      (omega (arith, with-room room)) T)
+  put-tables : TablesOf t (with-route r rs) (retabled t (puts r) (with-route r rs) (m .tables))
+  unfolding retabled
+  put-tables = announced-tables t r rs (m .tables) (I .tables) (territory I) (A .route) (A .inside) (I .list .all) (A .free) (with-listing .all)
 
--- nor does closing
-closed-owners : (t p : Prefix) (left : List Route) (m : Lent) → length (closed t p left m .owners) ≡ length (m .owners)
-unfolding closed closedAt
-closed-owners t p left m = go (closes t p left)
-  where
-    go : (x : Bool)
-        → length (cond x (closedAt (blockOf t (p .address)) (segmentOf (getD (m .first) (blockOf t (p .address)) 0)) (cellOf (best left (blockStart t (blockOf t (p .address))))) m) m .owners)
-        ≡ length (m .owners)
-    go true = length-set (m .owners) (segmentOf (getD (m .first) (blockOf t (p .address)) 0)) 0
-    go false = refl
-
-module _ (t p : Prefix) (rs : List Route) (m : Lent) (I : Inv t rs m) (w : WellFormed p) (e : Encloses t p) (live : IsLive p rs) where
+module _ (t p : Prefix) (rs : List Route) (m : Lent) (I : Inv t rs m) (A : Takes t p rs) where
   without-listing : Listing t (without p rs)
   without-listing = record {
     all = without-routes p rs (I .list .all);
@@ -209,27 +202,42 @@ module _ (t p : Prefix) (rs : List Route) (m : Lent) (I : Inv t rs m) (w : WellF
     inside = λ s i. I .list .inside s (without-mem p rs i .0);
   }
 
-  pub withdraw-keeps : Inv t (without p rs) (withdrawn t p m)
-  unfolding withdrawn repainted
-  withdraw-keeps =
-      let T = withdrawn-tables t p rs m (I .tables) (I .territory) w e (I .list .all) (I .list .order) (live .0) (live .1) (live .2) in
-      let after : List Route → Lent = λ left. closed t p left (repainted t p (unpaintCell (p .length) left) m) in
-      let u = ap (λ (x : List ℕ). length x) (closed-rules t p (without p rs) (repainted t p (unpaintCell (p .length) (without p rs)) m)) in
-      let o = closed-owners t p (without p rs) (repainted t p (unpaintCell (p .length) (without p rs)) m) in
-      subst (λ (x : List Route). Inv t (without p rs) (listing (without p x) (after (without p x)))) (sym (live-routes I))
-      (listed t (without p rs) (after (without p rs)) (I .territory) without-listing (omega (arith, I .few-owners)) (omega (arith, I .few-rules))
-      (omega (arith, length-without p rs, I .room)) T)
+  taken-tables : TablesOf t (without p rs) (retabled t (takes p) (without p rs) (m .tables))
+  unfolding retabled
+  taken-tables =
+      let L = A .lives in
+      withdrawn-tables t p rs (m .tables) (I .tables) (territory I) (A .formed) (A .inside) (I .list .all) (I .list .order) (L .0) (L .1) (L .2)
 
--- no call changes how many owner words there are
-pub announced-owners : (t : Prefix) (r : Route) (m : Lent) → length (announced t r m .owners) ≡ length (m .owners)
-unfolding announced listing repainted
-announced-owners t r m = opened-owners t (r .prefix) m
+pub keeps : (t : Prefix) (c : Change) (rs : List Route) (m : Lent) → Inv t rs m → Makes t c rs m → Inv t (applied c rs) (effect t c m)
+keeps t (puts r) rs m I A = changed-inv t (puts r) rs m I (with-listing t r rs m I A) (with-room t r rs m I A) (put-tables t r rs m I A)
+keeps t (takes p) rs m I A =
+    changed-inv t (takes p) rs m I (without-listing t p rs m I A) (omega (arith, length-without p rs, I .room)) (taken-tables t p rs m I A)
 
-pub withdrawn-owners : (t p : Prefix) (m : Lent) → length (withdrawn t p m .owners) ≡ length (m .owners)
-unfolding withdrawn listing repainted
-withdrawn-owners t p m =
-    let left = without p (routes (m .rules)) in
-    closed-owners t p left (repainted t p (unpaintCell (p .length) left) m) ∙ same left
+-- ---- no change makes more owner words, or fewer
+
+opened-owners : (t p : Prefix) (T : Tables) → length (openedFor t p T .owners) ≡ length (T .owners)
+unfolding openedFor openedAt
+opened-owners t p T = go (needsSegment t p T)
   where
-    same : (left : List Route) → length (repainted t p (unpaintCell (p .length) left) m .owners) ≡ length (m .owners)
-    same left = refl
+    go : (x : Bool) → length (cond x (openedAt (blockOf t (p .address)) (lowestFree (T .owners)) T) T .owners) ≡ length (T .owners)
+    go true = length-set (T .owners) (lowestFree (T .owners)) (blockOf t (p .address) + 1)
+    go false = refl
+
+closed-owners : (t p : Prefix) (left : List Route) (T : Tables) → length (closedFor t p left T .owners) ≡ length (T .owners)
+unfolding closedFor closedAt
+closed-owners t p left T = go (closes t p left)
+  where
+    b : ℕ
+    b = blockOf t (p .address)
+
+    s : ℕ
+    s = segmentOf (getD (T .first) b 0)
+
+    go : (x : Bool) → length (cond x (closedAt b s (cellOf (best left (blockStart t b))) T) T .owners) ≡ length (T .owners)
+    go true = length-set (T .owners) s 0
+    go false = refl
+
+pub retabled-owners : (t : Prefix) (c : Change) (rs : List Route) (T : Tables) → length (retabled t c rs T .owners) ≡ length (T .owners)
+unfolding retabled repainted
+retabled-owners t (puts r) rs T = opened-owners t (r .prefix) T
+retabled-owners t (takes p) rs T = closed-owners t p rs (repainted t p (unpaintCell (p .length) rs) T)

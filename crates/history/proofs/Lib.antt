@@ -1,5 +1,5 @@
 -- The invariant of a history, and the demands that follow from it.
-mod Tables
+mod Holding
 mod Matches
 pub mod LiveTables
 mod Announcing

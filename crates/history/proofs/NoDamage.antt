@@ -8,27 +8,27 @@ use native.Mathlib.Omega.{arith}
 use lib.Dec.{eqb}
 use lib.ListN.{length, getD}
 use Rattle.ground.proofs.Tests.{passes, says}
+use Rattle.updates.specs.Effects.{effect}
 use Rattle.prefix.specs.declared.Prefix.{Prefix}
-use Rattle.prefix.specs.Prefixes.{wellFormed, encloses, WellFormed, Encloses}
-use Rattle.prefix.specs.Geometry.{blocks, blockStart, blockOf}
-use Rattle.prefix.specs.Routes.{Route, Match, no-route, via, best, isRoute}
+use Rattle.prefix.specs.Prefixes.{encloses, WellFormed, Encloses}
+use Rattle.prefix.specs.Geometry.{blocks, blockStart, touched, width}
+use Rattle.prefix.specs.Routes.{Route, Match, no-route, via, best, Change, isChange, named, puts, takes}
 use Rattle.prefix.proofs.Prefixes.{wellFormed?, encloses?}
 use Rattle.prefix.proofs.Best.{isRoute?}
 use Rattle.prefix.proofs.Blocks.{closed-short}
 use Rattle.cells.specs.Cells.{segmentOf, cellOf}
 use Rattle.rules.specs.Rules.{routes, isLive, Formed}
 use Rattle.rules.proofs.RouteWords.{words-formed}
-use Rattle.cells.specs.Memory.{Lent, isLent, IsLent}
+use Rattle.cells.specs.Memory.{Lent, isLent, IsLent, noZero, needsSegment}
 use Rattle.refusals.specs.Damage.{undamaged}
-use Rattle.refusals.specs.Codes.{noZero, needsSegment, tested, announceCode, withdrawCode, reHomeCode}
+use Rattle.refusals.specs.Codes.{tested, Call, announces, withdraws, re-homes, unlessLive, unlessRoom, code, change, own}
 use Rattle.prefix.proofs.Spans.{blocks-inside}
 use Rattle.refusals.proofs.Soundness.{Clean, SegmentSound, BlockSound, undamaged?}
-use Rattle.updates.specs.Effects.{announced, withdrawn}
-use Rattle.updates.specs.Calls.{accepted, refused, outcome, announce, withdraw, reHome}
-use Rattle.history.specs.History.{Call, announces, withdraws, re-homes, History, memory, report, live}
-use Rattle.history.proofs.Tables.{closed-cell, open-pointer}
+use Rattle.updates.specs.Calls.{accepted, refused, outcome, step}
+use Rattle.history.specs.History.{History, memory, report, live}
+use Rattle.history.proofs.Holding.{closed-cell, open-pointer}
 use Rattle.history.proofs.Matches.{Good, best-good}
-use Rattle.history.proofs.Invariant.{Inv, live-routes}
+use Rattle.history.proofs.Invariant.{Inv, live-routes, territory}
 use Rattle.history.proofs.Histories.{inv-history}
 
 -- the cell of a match is 0 or direct
@@ -45,14 +45,14 @@ module _ (t : Prefix) (rs : List Route) (m : Lent) (I : Inv t rs m) where
   good : (a : ℕ) → Good (best rs a)
   good a = best-good rs a (I .list .all)
 
-  block-sound : (k : ℕ) → k < blocks t → BlockSound t (m .first) (m .long) (m .owners) rs k
+  block-sound : (k : ℕ) → k < blocks t → BlockSound t rs (m .tables) k
   block-sound k l = record {
     pointer = λ p.
         let o = open-pointer (I .tables) l p in
         let S = I .tables .open-at k l o in
         let q = S .points in
-        let s : S .number ≡ segmentOf (getD (m .first) k 0) = omega arith in (
-          subst (SegmentSound (m .long) (m .owners) k) s (record {
+        let s : S .number ≡ segmentOf (getD (m .tables .first) k 0) = omega arith in (
+          subst (SegmentSound (m .tables) k) s (record {
             lent = S .lent;
             owned = S .owner;
             clean = λ i j. subst (Clean 32) (sym (S .cells i j)) (clean-cell 32 (best rs (blockStart t k + i)) (good _) (good-short _ (good _)));
@@ -61,34 +61,40 @@ module _ (t : Prefix) (rs : List Route) (m : Lent) (I : Inv t rs m) where
         );
     other = λ d.
         let o = closed-cell (I .tables) l d in (
-          subst (Clean 24) (sym (I .tables .closed k l o)) (clean-cell 24 (best rs (blockStart t k)) (good _)
-              (λ h n e. closed-short 24 rs (blockStart t k) h n (I .list .all) o e)),
+          subst (Clean width) (sym (I .tables .closed k l o)) (clean-cell width (best rs (blockStart t k)) (good _)
+              (λ h n e. closed-short width rs (blockStart t k) h n (I .list .all) o e)),
           o,
         );
   }
 
-  not-damaged : (p : Prefix) → WellFormed p → Encloses t p → undamaged t m p ≡ true
+  not-damaged : (p : Prefix) → WellFormed p → Encloses t p → undamaged t p m ≡ true
   not-damaged p w e =
-      passes (undamaged? t m p) (record {
+      passes (undamaged? t p m) (record {
         rules = subst (Formed t) (sym (I .words)) (words-formed t (length (m .rules)) rs (I .list .all) (I .list .order) (I .list .inside));
         blocks = λ i j.
-            subst (λ (x : List Route). BlockSound t (m .first) (m .long) (m .owners) x (blockOf t (p .address) + i)) (sym (live-routes I))
-            (block-sound (blockOf t (p .address) + i) (let l = blocks-inside (I .territory) w e in omega arith));
+            subst (λ (x : List Route). BlockSound t x (m .tables) (touched t p .from + i)) (sym (live-routes I))
+            (block-sound (touched t p .from + i) (let l = blocks-inside (territory I) w e in omega arith));
       })
+
+-- the prefix of a change that refusal 2 lets pass is well formed
+change-formed : (c : Change) → isChange c ≡ true → WellFormed (named c)
+unfolding isChange
+change-formed (puts r) e = says (isRoute? r) e .formed
+change-formed (takes p) e = says (wellFormed? p) e
 
 -- ---- the numbers that a call can answer
 
 -- where what passes refusals 2 and 3 is not damaged, the number is 4 only if what follows is
-tested-not-4 : (t : Prefix) (m : Lent) (p : Prefix) (lets : Bool) (next : ℕ) → (lets ≡ true → encloses t p ≡ true → undamaged t m p ≡ true)
-    → ¬ (next ≡ 4) → ¬ (tested t m p lets next ≡ 4)
+tested-not-4 : (t : Prefix) (c : Change) (m : Lent) (next : ℕ) → (isChange c ≡ true → encloses t (named c) ≡ true → undamaged t (named c) m ≡ true)
+    → ¬ (next ≡ 4) → ¬ (tested t c m next ≡ 4)
 unfolding tested
-tested-not-4 t m p lets next sound n = go (isLent m t) lets (encloses t p) (undamaged t m p) refl refl refl
+tested-not-4 t c m next sound n = go (isLent m t) (isChange c) (encloses t (named c)) (undamaged t (named c) m) refl refl refl
   where
-    go : (a b c d : Bool) → lets ≡ b → encloses t p ≡ c → undamaged t m p ≡ d
-        → ¬ (cond (not a) 1 (cond (not b) 2 (cond (not c) 3 (cond (not d) 4 next))) ≡ 4)
-    go false b c d p q r e = omega arith
-    go true false c d p q r e = omega arith
-    go true true false d p q r e = omega arith
+    go : (x y z w : Bool) → isChange c ≡ y → encloses t (named c) ≡ z → undamaged t (named c) m ≡ w
+        → ¬ (cond (not x) 1 (cond (not y) 2 (cond (not z) 3 (cond (not w) 4 next))) ≡ 4)
+    go false y z w p q r e = omega arith
+    go true false z w p q r e = omega arith
+    go true true false w p q r e = omega arith
     go true true true true p q r e = n e
     go true true true false p q r e = let z = sym r ∙ sound p q in let o : _≡_ {A = ℕ} 0 1 = cc in omega arith
 
@@ -96,31 +102,35 @@ refuses : (x : Bool) (number next : ℕ) → ¬ (number ≡ 4) → ¬ (next ≡ 
 refuses true number next f g e = f e
 refuses false number next f g e = g e
 
-reported : (code : ℕ) (m n : Lent) → ¬ (code ≡ 4) → ¬ (outcome code m n .report .code ≡ 4)
-reported code m n f = go (eqb code 0)
+-- the refusals of a call's own
+live-not-4 : (p : Prefix) (m : Lent) → ¬ (unlessLive p m ≡ 4)
+unfolding unlessLive
+live-not-4 p m = refuses (not (isLive p (routes (m .rules)))) 5 0 (λ e. omega arith) (λ e. omega arith)
+
+room-not-4 : (t p : Prefix) (m : Lent) → ¬ (unlessRoom t p m ≡ 4)
+unfolding unlessRoom
+room-not-4 t p m =
+    refuses (not (isLive p (routes (m .rules))) && noZero (m .rules)) 6 _ (λ e. omega arith)
+    (refuses (needsSegment t p (m .tables) && noZero (m .tables .owners)) 7 0 (λ e. omega arith) (λ e. omega arith))
+
+own-not-4 : (t : Prefix) (c : Call) (m : Lent) → ¬ (own t c m ≡ 4)
+own-not-4 t (announces r) m = room-not-4 t (r .prefix) m
+own-not-4 t (withdraws p) m = live-not-4 p m
+own-not-4 t (re-homes r) m = live-not-4 (r .prefix) m
+
+answers-no-4 : (number : ℕ) (m n : Lent) → ¬ (number ≡ 4) → ¬ (outcome number m n .report .code ≡ 4)
+answers-no-4 number m n f = go (eqb number 0)
   where
-    go : (x : Bool) → ¬ (cond x (accepted m n) (refused code m) .report .code ≡ 4)
+    go : (x : Bool) → ¬ (cond x (accepted m n) (refused number m) .report .code ≡ 4)
     go true e = omega arith
     go false e = f e
 
 pub no-damage : (t : Prefix) (m : Lent) → IsLent m t → (h : History) (c : Call) → ¬ (report t m h c .code ≡ 4)
-unfolding report announce withdraw reHome announceCode withdrawCode reHomeCode
-no-damage t m l h (announces r) =
+unfolding report step code
+no-damage t m l h c =
+    let n = memory t m h in
     let I = inv-history t m l h in
-    reported _ (memory t m h) (announced t r (memory t m h))
-    (tested-not-4 t (memory t m h) (r .prefix) (isRoute r) _
-    (λ x y. not-damaged t (live t m h) (memory t m h) I (r .prefix) (says (isRoute? r) x .formed) (says (encloses? t (r .prefix)) y))
-    (refuses (not (isLive (r .prefix) (routes (memory t m h .rules))) && noZero (memory t m h .rules)) 6 _ (λ e. omega arith)
-    (refuses (needsSegment t (memory t m h) (r .prefix) && noZero (memory t m h .owners)) 7 0 (λ e. omega arith) (λ e. omega arith))))
-no-damage t m l h (withdraws p) =
-    let I = inv-history t m l h in
-    reported _ (memory t m h) (withdrawn t p (memory t m h))
-    (tested-not-4 t (memory t m h) p (wellFormed p) _
-    (λ x y. not-damaged t (live t m h) (memory t m h) I p (says (wellFormed? p) x) (says (encloses? t p) y))
-    (refuses (not (isLive p (routes (memory t m h .rules)))) 5 0 (λ e. omega arith) (λ e. omega arith)))
-no-damage t m l h (re-homes r) =
-    let I = inv-history t m l h in
-    reported _ (memory t m h) (announced t r (memory t m h))
-    (tested-not-4 t (memory t m h) (r .prefix) (isRoute r) _
-    (λ x y. not-damaged t (live t m h) (memory t m h) I (r .prefix) (says (isRoute? r) x .formed) (says (encloses? t (r .prefix)) y))
-    (refuses (not (isLive (r .prefix) (routes (memory t m h .rules)))) 5 0 (λ e. omega arith) (λ e. omega arith)))
+    answers-no-4 _ n (effect t (change c) n)
+    (tested-not-4 t (change c) n (own t c n)
+    (λ x y. not-damaged t (live t m h) n I (named (change c)) (change-formed (change c) x) (says (encloses? t (named (change c))) y))
+    (own-not-4 t c n))

@@ -6,18 +6,18 @@ use mathlib.Core.List.{List}
 use Rattle.ground.specs.Sums.{sum}
 use Rattle.prefix.specs.declared.Prefix.{Prefix}
 use Rattle.prefix.specs.Price.{isOpen, price}
-use Rattle.prefix.specs.Geometry.{blocks, blockStart, blockOf}
+use Rattle.prefix.specs.Geometry.{width, blockStart, touched}
 use Rattle.prefix.specs.Routes.{Route}
 use Rattle.cells.specs.Memory.{Lent}
-use Rattle.updates.specs.Calls.{changed}
+use Rattle.tables.specs.Changes.{changed}
 
 -- the blocks inside the prefix, and 255 for each that has a segment open
 unfoldable pub shortMost : Prefix → Prefix → List Route → ℕ
-shortMost t p rs = sum (blocks p) (λ i. 1 + cond (isOpen rs (blockStart t (blockOf t (p .address) + i))) 255 0)
+shortMost t p rs = sum (touched t p .count) (λ i. 1 + cond (isOpen rs (blockStart t (touched t p .from + i))) 255 0)
 
 -- an update of the prefix p that took the live list from rs to vs and the memory from m to n, and reported this many cells
 pub record Costs (t p : Prefix) (rs vs : List Route) (m n : Lent) (cells : ℕ) : Type 0 where
-  pub differing : cells ≡ changed m n
+  pub differing : cells ≡ changed (m .tables) (n .tables)
   pub priced : cells ≡ price t rs vs
-  pub long : 24 < p .length → cells ≤ 257
-  pub short : p .length ≤ 24 → cells ≤ shortMost t p rs
+  pub long : width < p .length → cells ≤ 257
+  pub short : p .length ≤ width → cells ≤ shortMost t p rs

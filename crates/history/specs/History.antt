@@ -7,29 +7,13 @@ use mathlib.Core.List.{List, [], List·Memᴰ as Mem}
 use lib.Dec.{eqb}
 use Rattle.prefix.specs.declared.Prefix.{Prefix}
 use Rattle.prefix.specs.Prefixes.{Contains}
-use Rattle.prefix.specs.Routes.{Route, with-route, without, IsLongest}
+use Rattle.prefix.specs.Routes.{Route, applied, IsLongest}
+use Rattle.cells.specs.Memory.{Lent}
 use Rattle.lookup.specs.declared.look.Answer.{Answer}
 use Rattle.lookup.specs.Lookup.{found, refused}
-use Rattle.cells.specs.Memory.{Lent}
+use Rattle.refusals.specs.Codes.{Call, change}
 use Rattle.updates.specs.declared.Report.{Report}
-use Rattle.updates.specs.Calls.{Outcome, clear, announce, withdraw, reHome}
-
-pub data Call : Type 0 where
-  announces : Route → Call
-  withdraws : Prefix → Call
-  re-homes : Route → Call
-
--- the prefix that a call names
-abbrev pub named : Call → Prefix
-named (announces r) = r .prefix
-named (withdraws p) = p
-named (re-homes r) = r .prefix
-
--- what a call answers and leaves: the definition that its contract cites
-abbrev pub step : Prefix → Call → Lent → Outcome
-step t (announces r) m = announce t r m
-step t (withdraws p) m = withdraw t p m
-step t (re-homes r) m = reHome t r m
+use Rattle.updates.specs.Calls.{clear, step}
 
 pub data History : Type 0 where
   start : History
@@ -49,17 +33,11 @@ report t m h c = step t c (memory t m h) .report
 unfoldable pub isAccepted : Prefix → Lent → History → Call → Bool
 isAccepted t m h c = eqb (report t m h c .code) 0
 
--- what an accepted call makes of the live list: a prefix is live from an accepted announce until an accepted withdraw, and its hop is the
--- last one accepted for it
-abbrev pub change : Call → List Route → List Route
-change (announces r) rs = with-route r rs
-change (withdraws p) rs = without p rs
-change (re-homes r) rs = with-route r rs
-
--- the live prefixes with their hops, read off the history
+-- the live prefixes with their hops, read off the history: a prefix is live from an accepted announce until an accepted withdraw, and its
+-- hop is the last one accepted for it
 unfoldable pub live : Prefix → Lent → History → List Route
 live t m start = []
-live t m (h then c) = cond (isAccepted t m h c) (change c (live t m h)) (live t m h)
+live t m (h then c) = cond (isAccepted t m h c) (applied (change c) (live t m h)) (live t m h)
 
 -- an answer is that of the longest match: the hop of the longest live prefix that contains the address, or 8 where none does
 pub data IsAnswer (rs : List Route) (a : ℕ) (answer : Answer) : Type 0 where

@@ -28,8 +28,8 @@ openedAt block s tables = record {
 }
 
 -- where one is needed, the lowest free segment is opened
-unfoldable pub opened : Prefix → Prefix → Tables → Tables
-opened t p tables =
+unfoldable pub openedFor : Prefix → Prefix → Tables → Tables
+openedFor t p tables =
     cond (needsSegment t p tables) (openedAt (blockOf t (p .address)) (lowestFree (tables .owners)) tables) tables
 
 -- ---- closing
@@ -47,8 +47,8 @@ closedAt block s cell tables = record {
 }
 
 -- then the segment of the block closes, and the first cell takes the longest live prefix over the block, or 0
-unfoldable pub closed : Prefix → Prefix → List Route → Tables → Tables
-closed t p left tables =
+unfoldable pub closedFor : Prefix → Prefix → List Route → Tables → Tables
+closedFor t p left tables =
     let block = blockOf t (p .address) in
     cond (closes t p left)
     (closedAt block (segmentOf (getD (tables .first) block 0)) (cellOf (best left (blockStart t block))) tables)
