@@ -4,12 +4,13 @@ use Prim.Native.Nat.{ℕ, _+_, _-_, _/_, _%_, _^_}
 use mathlib.Core.Bool.{cond}
 use mathlib.Core.List.{List}
 use lib.Dec.{ltb}
+use Rattle.prefix.specs.Geometry.{width, blockSize}
 use Rattle.cells.specs.Cells.{isPointer}
 use Rattle.lookup.specs.Lookup.{refused, verdictOf, saysOf, packed}
 
 -- the block of an address, counted from the base on and round the end of the addresses: below `blocks` exactly in the territory
 abbrev pub blockFrom : ℕ → ℕ → ℕ
-blockFrom base address = (address + 2 ^ 32 - base) % 2 ^ 32 / 256
+blockFrom base address = (address + 2 ^ 32 - base) % 2 ^ 32 / blockSize
 
 -- the block where the territory has it, else 0
 unfoldable pub placeOf : ℕ → ℕ → ℕ → ℕ
@@ -17,7 +18,7 @@ placeOf base blocks address = cond (ltb (blockFrom base address) blocks) (blockF
 
 -- what a cell of the first table says, and a pointer as it is
 unfoldable pub saidOrPointer : ℕ → ℕ
-saidOrPointer cell = cond (isPointer cell) cell (packed (verdictOf 24 cell))
+saidOrPointer cell = cond (isPointer cell) cell (packed (verdictOf width cell))
 
 -- that in the territory, and refusal 3 outside it
 unfoldable pub judged : ℕ → ℕ → ℕ → ℕ → ℕ
@@ -25,4 +26,4 @@ judged base blocks address cell = cond (ltb (blockFrom base address) blocks) (sa
 
 -- what a pointer says; no number of an answer is one
 unfoldable pub settled : List ℕ → ℕ → ℕ → ℕ
-settled long address word = cond (isPointer word) (packed (saysOf long (address % 256) word)) word
+settled long address word = cond (isPointer word) (packed (saysOf long (address % blockSize) word)) word

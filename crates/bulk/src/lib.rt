@@ -7,17 +7,19 @@ ghost use Rattle.ground.specs.Lists.{mapAt};
 ghost use Rattle.bulk.specs.All.{allOf};
 ghost use Rattle.bulk.specs.Passes.{blockFrom, placeOf, saidOrPointer, judged, settled};
 use cells::cell::Cell;
+use lookup::look::Answer;
 use lookup::look::says;
 use lookup::look::standing;
 use lookup::look::verdict;
 use prefix::Prefix;
+use prefix::geometry::Block;
 
 // The block of an address, counted from the base on. An address before the base comes out past every block of the territory, so one
 // test tells whether it is inside.
 fn block(base: u32, address: u32) -> u32
     ensures { λ r. ⌜ r ≡ blockFrom base address ⌝ }
 {
-    std::num::wrapping_sub_u32(address, base) / 256
+    std::num::wrapping_sub_u32(address, base) / Block::SIZE
 }
 
 // Where the first table is read for an address: outside the territory at block 0, which is always there.
@@ -32,8 +34,8 @@ fn place(base: u32, blocks: u32, address: u32) -> u32
 fn said_or_pointer(cell: u32) -> u32
     ensures { λ r. ⌜ r ≡ saidOrPointer cell ⌝ }
 {
-    let number = verdict(cell, 24);
-    if cell < Cell::POINTER { number } else { cell }
+    let number = verdict(cell, Block::WIDTH);
+    if Cell::is_pointer(cell) { cell } else { number }
 }
 
 // That in the territory, and refusal 3 outside it.
@@ -44,7 +46,7 @@ fn judge(base: u32, blocks: u32, address: u32, cell: u32) -> u32
     if block(base, address) < blocks {
         number
     } else {
-        3 * 65536
+        Answer::refusal(3)
     }
 }
 
@@ -52,10 +54,10 @@ fn judge(base: u32, blocks: u32, address: u32, cell: u32) -> u32
 fn settle(long: &[u32], address: u32, word: u32) -> u32
     ensures { λ r. ⌜ r ≡ settled (now (long .entry)) address word ⌝ }
 {
-    if word < Cell::POINTER {
+    if !Cell::is_pointer(word) {
         return word;
     }
-    says(long, (address % 256) as usize, word)
+    says(long, (address % Block::SIZE) as usize, word)
 }
 
 // The first pass: where the first table is read.
@@ -110,7 +112,7 @@ fn settle_all(long: &[u32], addresses: &[u32], answers: &mut [u32])
     }
 }
 
-// The answers to many addresses, each as the one number code * 65,536 + hop: 0, or 1 where look up would answer 1 to every address or
+// The answers to many addresses, each as one number: 0, or 1 where look up would answer 1 to every address or
 // where the addresses and the answers differ in number; then nothing is written.
 pub fn look_up_all(
     first: &[u32],

@@ -73,8 +73,8 @@ small-look first long t a =
     (small-refused 1 (lit≤ tt))
 
 -- an answer from its number
-pub unpacked : (r : Answer) (n : ℕ) → Small r → n ≡ packed r → record { code = n / 65536; hop = n % 65536 } ≡ r
+pub unpacked : (r : Answer) (n : ℕ) → Small r → n ≡ packed r → unpackedOf n ≡ r
 unpacked r n s e =
-    let c : n / 65536 ≡ r .code = omega (arith, s .hop) in
-    let h : n % 65536 ≡ r .hop = omega (arith, s .hop) in
+    let c : n / answerRadix ≡ r .code = omega (arith, s .hop) in
+    let h : n % answerRadix ≡ r .hop = omega (arith, s .hop) in
     λ i. record { code = c i; hop = h i }

@@ -1,14 +1,14 @@
 -- What look up answers, for any numbers and any words: refusals 1, 3, 4 and 8 in this order, each under exactly its condition.
 -- Assumes nothing.
-use Prim.Native.Nat.{ℕ, _+_, _-_, _*_, _/_, _%_}
-use mathlib.Core.Bool.{Bool, cond, _&&_}
+use Prim.Native.Nat.{ℕ, _+_, _*_, _/_, _%_}
+use mathlib.Core.Bool.{cond}
 use mathlib.Core.List.{List}
-use lib.Dec.{leb, ltb, eqb}
+use lib.Dec.{ltb, eqb}
 use lib.ListN.{length, getD}
 use Rattle.prefix.specs.declared.Prefix.{Prefix}
 use Rattle.cells.specs.Memory.{lentToRead}
 use Rattle.prefix.specs.Prefixes.{contains}
-use Rattle.prefix.specs.Geometry.{isTerritory, blocks, blockOf}
+use Rattle.prefix.specs.Geometry.{width, blockSize, blockOf}
 use Rattle.lookup.specs.declared.look.Answer.{Answer}
 use Rattle.cells.specs.Cells.{empty, hopOf, isDirect, isPointer, segmentOf}
 
@@ -34,15 +34,22 @@ verdictOf longest cell = cond (eqb cell empty) (refused 8) (directOrDamage longe
 unfoldable pub saysOf : List ℕ → ℕ → ℕ → Answer
 saysOf long low cell =
     cond (isPointer cell)
-    (cond (ltb (segmentOf cell) (length long / 256)) (verdictOf 32 (getD long (segmentOf cell * 256 + low) 0)) (refused 4))
-    (verdictOf 24 cell)
+    (cond (ltb (segmentOf cell) (length long / blockSize)) (verdictOf 32 (getD long (segmentOf cell * blockSize + low) 0)) (refused 4))
+    (verdictOf width cell)
 
 unfoldable pub lookUp : List ℕ → List ℕ → Prefix → ℕ → Answer
 lookUp first long t a =
     cond (lentToRead (length first) (length long) t)
-    (cond (contains t a) (saysOf long (a % 256) (getD first (blockOf t a) 0)) (refused 3))
+    (cond (contains t a) (saysOf long (a % blockSize) (getD first (blockOf t a) 0)) (refused 3))
     (refused 1)
 
--- the answer as one number
+-- ---- an answer as one number
+
+abbrev pub answerRadix : ℕ
+answerRadix = 65536
+
 abbrev pub packed : Answer → ℕ
-packed answer = answer .code * 65536 + answer .hop
+packed answer = answer .code * answerRadix + answer .hop
+
+abbrev pub unpackedOf : ℕ → Answer
+unpackedOf number = record { code = number / answerRadix; hop = number % answerRadix }

@@ -18,7 +18,7 @@ firstCell first t a = getD first (blockOf t a) 0
 unfoldable pub showCode : List ℕ → List ℕ → Prefix → ℕ → ℕ
 showCode first long t a =
     cond (lentToRead (length first) (length long) t)
-    (cond (contains t a) (cond (isPointer (firstCell first t a) && leb (length long / 256) (segmentOf (firstCell first t a))) 4 0) 3)
+    (cond (contains t a) (cond (isPointer (firstCell first t a) && leb (length long / blockSize) (segmentOf (firstCell first t a))) 4 0) 3)
     1
 
 -- a run of lent cells: where it lies, as the memory it is part of and an offset in bytes there, and what it holds
@@ -39,5 +39,5 @@ unfoldable pub shown : Run → Run → Prefix → ℕ → Run
 shown first long t a =
     let cell = firstCell (first .cells) t a in
     cond (eqb (showCode (first .cells) (long .cells) t a) 0)
-    (cond (isPointer cell) (part long (segmentOf cell * 256) 256) (part first (blockOf t a) 1))
+    (cond (isPointer cell) (part long (segmentOf cell * blockSize) blockSize) (part first (blockOf t a) 1))
     (part first 0 0)

@@ -2,12 +2,16 @@
 ghost use mathlib.Core.Path.{_≡_};
 ghost use Prim.Native.Nat.{_/_, _<_};
 ghost use lib.ListN.{length, getD};
+ghost use Rattle.prefix.specs.Geometry.{blockSize};
 ghost use Rattle.lookup.specs.Lookup.{packed, saysOf};
 ghost use Rattle.lookup.specs.Bytes.{spelt, words, lookUpBytes};
+use crate::look::Answer;
 use crate::look::standing;
 use crate::look::verdict;
 use cells::cell::Cell;
 use prefix::Prefix;
+use prefix::geometry::Block;
+use prefix::geometry::block_of;
 
 // A word from its bytes, the lowest first.
 fn spell(a: u8, b: u8, c: u8, d: u8) -> u32
@@ -27,34 +31,34 @@ fn word(bytes: &[u8], at: usize) -> u32
 
 // `look::says`, on bytes.
 fn says_bytes(long: &[u8], low: usize, cell: u32) -> u32
-    requires { ⌜ low < 256 ⌝ }
+    requires { ⌜ low < blockSize ⌝ }
     ensures { λ r. ⌜ r ≡ packed (saysOf (words (now (long .entry))) low cell) ⌝ }
 {
-    if cell < Cell::POINTER {
-        return verdict(cell, 24);
+    if !Cell::is_pointer(cell) {
+        return verdict(cell, Block::WIDTH);
     }
-    let segment = (cell - Cell::POINTER) as usize;
-    if long.len() / 1024 <= segment {
-        return 4 * 65536;
+    let segment = Cell::segment(cell);
+    if long.len() / (4 * Block::CELLS) <= segment {
+        return Answer::refusal(4);
     }
-    verdict(word(long, segment * 256 + low), 32)
+    verdict(word(long, segment * Block::CELLS + low), 32)
 }
 
-// The answer as the one number code * 65,536 + hop; refusal 1 also where a table is no whole number of cells. It reads just the
+// The answer as one number; refusal 1 also where a table is no whole number of cells. It reads just the
 // one or two cells that decide.
 pub fn look_up_bytes(first: &[u8], long: &[u8], territory: Prefix, address: u32) -> u32
     ensures { λ r. ⌜ r ≡ lookUpBytes (now (first .entry)) (now (long .entry)) territory address ⌝ }
 {
     if first.len() % 4 != 0 {
-        return 65536;
+        return Answer::refusal(1);
     }
     if long.len() % 4 != 0 {
-        return 65536;
+        return Answer::refusal(1);
     }
     let code = standing(first.len() / 4, long.len() / 4, territory, address);
     if code != 0 {
-        return code * 65536;
+        return Answer::refusal(code);
     }
-    let block = ((address - territory.address) / 256) as usize;
-    says_bytes(long, (address % 256) as usize, word(first, block))
+    let block = block_of(territory, address);
+    says_bytes(long, (address % Block::SIZE) as usize, word(first, block))
 }

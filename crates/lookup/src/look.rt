@@ -1,9 +1,13 @@
 // Look up: the answer to an address, from the first and the long table.
 ghost use mathlib.Core.Path.{_≡_};
-ghost use Prim.Native.Nat.{_-_, _^_, _<_, _≤_};
-ghost use Rattle.lookup.specs.Lookup.{standingOf, packed, directOrDamage, verdictOf, saysOf, lookUp};
+ghost use Prim.Native.Nat.{_<_};
+ghost use Rattle.prefix.specs.Geometry.{blockSize};
+ghost use Rattle.lookup.specs.Lookup.{answerRadix, refused, packed, unpackedOf, standingOf, directOrDamage, verdictOf, saysOf, lookUp};
 use cells::cell::Cell;
+use cells::sizes::Most;
 use prefix::Prefix;
+use prefix::geometry::Block;
+use prefix::geometry::block_of;
 use prefix::geometry::blocks_of;
 
 // A refusal's number, or 0 with the hop.
@@ -13,6 +17,28 @@ pub struct Answer {
     pub hop: u32,
 }
 
+// An answer as the one number code * RADIX + hop: no other file knows how it is made.
+impl Answer {
+    const RADIX: u32 = 65536;
+
+    // A refusal.
+    pub fn refusal(code: u32) -> u32
+        requires { ⌜ code < answerRadix ⌝ }
+        ensures { λ r. ⌜ r ≡ packed (refused code) ⌝ }
+    {
+        code * Answer::RADIX
+    }
+
+    pub fn unpack(number: u32) -> Answer
+        ensures { λ r. ⌜ r ≡ unpackedOf number ⌝ }
+    {
+        Answer {
+            code: number / Answer::RADIX,
+            hop: number % Answer::RADIX,
+        }
+    }
+}
+
 // 0 where the numbers of cells lent are right and the address is in the territory, else refusal 1 or 3. The bits after the length
 // are cleared once for both tests: an address of the territory cleared is the territory's own.
 pub fn standing(first: usize, long: usize, territory: Prefix, address: u32) -> u32
@@ -20,7 +46,7 @@ pub fn standing(first: usize, long: usize, territory: Prefix, address: u32) -> u
 {
     let base = territory.address;
     let length = territory.length;
-    if 24 < length {
+    if Block::WIDTH < length {
         return 1;
     }
     if prefix::cleared(base, length) != base {
@@ -29,10 +55,10 @@ pub fn standing(first: usize, long: usize, territory: Prefix, address: u32) -> u
     if first != blocks_of(length) {
         return 1;
     }
-    if long % 256 != 0 {
+    if long % Block::CELLS != 0 {
         return 1;
     }
-    if 8388608 < long {
+    if Most::LONG < long {
         return 1;
     }
     if prefix::cleared(address, length) != base {
@@ -41,14 +67,14 @@ pub fn standing(first: usize, long: usize, territory: Prefix, address: u32) -> u
     0
 }
 
-// The hop of a direct cell, or refusal 4, as the one number code * 65,536 + hop.
+// The hop of a direct cell, or refusal 4, as one number.
 fn direct_or_damage(cell: u32, longest: u32) -> u32
     ensures { λ r. ⌜ r ≡ packed (directOrDamage longest cell) ⌝ }
 {
     if Cell::is_direct(cell, longest) {
         return Cell::hop(cell);
     }
-    4 * 65536
+    Answer::refusal(4)
 }
 
 // What a deciding cell says, as one number. Whether it is 0 is asked last, so that the answer is selected and not jumped to: no
@@ -58,7 +84,7 @@ pub fn verdict(cell: u32, longest: u32) -> u32
 {
     let number = direct_or_damage(cell, longest);
     if cell == Cell::EMPTY {
-        8 * 65536
+        Answer::refusal(8)
     } else {
         number
     }
@@ -66,17 +92,17 @@ pub fn verdict(cell: u32, longest: u32) -> u32
 
 // What a cell of the first table says for an address whose last eight bits are low, as one number.
 pub fn says(long: &[u32], low: usize, cell: u32) -> u32
-    requires { ⌜ low < 256 ⌝ }
+    requires { ⌜ low < blockSize ⌝ }
     ensures { λ r. ⌜ r ≡ packed (saysOf (now (long .entry)) low cell) ⌝ }
 {
-    if cell < Cell::POINTER {
-        return verdict(cell, 24);
+    if !Cell::is_pointer(cell) {
+        return verdict(cell, Block::WIDTH);
     }
-    let segment = (cell - Cell::POINTER) as usize;
-    if long.len() / 256 <= segment {
-        return 4 * 65536;
+    let segment = Cell::segment(cell);
+    if long.len() / Block::CELLS <= segment {
+        return Answer::refusal(4);
     }
-    verdict(long[segment * 256 + low], 32)
+    verdict(long[segment * Block::CELLS + low], 32)
 }
 
 // The answer to an address: the hop of the deciding cell, or refusal 1, 3, 4 or 8.
@@ -87,10 +113,7 @@ pub fn look_up(first: &[u32], long: &[u32], territory: Prefix, address: u32) -> 
     if code != 0 {
         return Answer { code, hop: 0 };
     }
-    let block = ((address - territory.address) / 256) as usize;
-    let number = says(long, (address % 256) as usize, first[block]);
-    Answer {
-        code: number / 65536,
-        hop: number % 65536,
-    }
+    let block = block_of(territory, address);
+    let number = says(long, (address % Block::SIZE) as usize, first[block]);
+    Answer::unpack(number)
 }

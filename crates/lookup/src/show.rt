@@ -4,6 +4,8 @@ ghost use Rattle.lookup.specs.Show.{showCode, seen, shown};
 use crate::look::standing;
 use cells::cell::Cell;
 use prefix::Prefix;
+use prefix::geometry::Block;
+use prefix::geometry::block_of;
 
 // The number: 0, or refusal 1, 3 or 4.
 pub fn show_code(first: &[u32], long: &[u32], territory: Prefix, address: u32) -> u32
@@ -13,11 +15,11 @@ pub fn show_code(first: &[u32], long: &[u32], territory: Prefix, address: u32) -
     if code != 0 {
         return code;
     }
-    let cell = first[((address - territory.address) / 256) as usize];
-    if cell < Cell::POINTER {
+    let cell = first[block_of(territory, address)];
+    if !Cell::is_pointer(cell) {
         return 0;
     }
-    if long.len() / 256 <= (cell - Cell::POINTER) as usize {
+    if long.len() / Block::CELLS <= Cell::segment(cell) {
         return 4;
     }
     0
@@ -36,11 +38,11 @@ pub fn show_cells<'a>(
     if show_code(first, long, territory, address) != 0 {
         return &first[..0];
     }
-    let block = ((address - territory.address) / 256) as usize;
+    let block = block_of(territory, address);
     let cell = first[block];
-    if cell < Cell::POINTER {
+    if !Cell::is_pointer(cell) {
         return &first[block..block + 1];
     }
-    let start = (cell - Cell::POINTER) as usize * 256;
-    &long[start..start + 256]
+    let start = Cell::segment(cell) * Block::CELLS;
+    &long[start..start + Block::CELLS]
 }

@@ -98,7 +98,7 @@ module _ (first long : List ℕ) (t : Prefix) where
   by-answers (a ∷ xs) [] words l = refl
   by-answers (a ∷ xs) (n ∷ ns) words l =
       let o = enterNumber (answerOf first long t a) n words in
-      let more = did-long (did-enter (record { code = answerOf first long t a / 65536; hop = answerOf first long t a % 65536 }) n words) in
+      let more = did-long (did-enter (unpackedOf (answerOf first long t a)) n words) in
       ap (λ (b : Booked). record { codes = o .code ∷ b .codes; words = b .words }) (by-answers xs ns (o .words) (more ∙ l))
       ∙ ap (λ (q : Outcome). let b = bookEach first long t xs ns (q .words) in record { codes = q .code ∷ b .codes; words = b .words })
       (one-same a n words l)
@@ -107,10 +107,10 @@ module _ (first long : List ℕ) (t : Prefix) where
 
 -- the hop in look up's number is small
 pub hops-small : (first long : List ℕ) (t : Prefix) (xs ys : List ℕ) → ys ≡ map (answerOf first long t) xs
-    → (i : ℕ) → i < length ys → getD ys i 0 % 65536 ≤ 32767
-hops-small first long t xs ys e i h = subst (λ (l : List ℕ). i < length l → getD l i 0 % 65536 ≤ 32767) (sym e) (go xs i) h
+    → (i : ℕ) → i < length ys → unpackedOf (getD ys i 0) .hop ≤ 32767
+hops-small first long t xs ys e i h = subst (λ (l : List ℕ). i < length l → unpackedOf (getD l i 0) .hop ≤ 32767) (sym e) (go xs i) h
   where
-    go : (l : List ℕ) (k : ℕ) → k < length (map (answerOf first long t) l) → getD (map (answerOf first long t) l) k 0 % 65536 ≤ 32767
+    go : (l : List ℕ) (k : ℕ) → k < length (map (answerOf first long t) l) → unpackedOf (getD (map (answerOf first long t) l) k 0) .hop ≤ 32767
     go [] k m = absurd (not-suc-le-zero m)
     go (x ∷ l) zero m = omega (arith, small-look first long t x .hop)
     go (x ∷ l) (suc k) m = go l k (le-of-suc-le-suc m)

@@ -29,7 +29,7 @@ bookEach first long t addresses amounts words = each (book first long t) address
 
 -- answers of look up, as numbers, and amounts
 abbrev pub enterNumber : ℕ → ℕ → List ℕ → Outcome
-enterNumber n amount words = enter (record { code = n / 65536; hop = n % 65536 }) amount words
+enterNumber n amount words = enter (unpackedOf n) amount words
 
 abbrev pub enterEach : List ℕ → List ℕ → List ℕ → Booked
 enterEach numbers amounts words = each enterNumber numbers amounts words

@@ -75,17 +75,17 @@ pub fn book(
     enter(octets, answer.code, answer.hop, amount)
 }
 
-// Books by look up's answers, which the room holds as numbers code * 65,536 + hop, and leaves there the number of each record.
+// Books by look up's answers, which the room holds as numbers, and leaves there the number of each record.
 fn enter_all(octets: &mut [u64], amounts: &[u64], codes: &mut [u32])
     requires { ⌜ (length (now octets) ≡ wordCount) × (length (now amounts) ≡ length (now codes)) ⌝ }
-    requires { ⌜ ((i : ℕ) → i < length (now codes) → getD (now codes) i 0 % 65536 ≤ 32767) ⌝ }
+    requires { ⌜ ((i : ℕ) → i < length (now codes) → unpackedOf (getD (now codes) i 0) .hop ≤ 32767) ⌝ }
     ensures { λ _. ⌜ record { codes = now (codes .exit); words = now (octets .exit) } ≡ enterEach (now (codes .entry)) (now (amounts .entry)) (now (octets .entry)) ⌝ }
 {
     let count = codes.len();
     let mut i = 0;
     while i < count {
-        let number = codes[i];
-        codes[i] = enter(octets, number / 65536, number % 65536, amounts[i]);
+        let answer = Answer::unpack(codes[i]);
+        codes[i] = enter(octets, answer.code, answer.hop, amounts[i]);
         i += 1;
     }
 }
