@@ -261,8 +261,8 @@ static inline rk_report rk_tables_re_home(rk_tables *t, uint32_t address, uint32
 }
 
 /*
- * What an accepted record asks for: one of the three calls above, by the update's kind. An update that no accepted record carries is refused
- * as reading refuses its record, before anything else is looked at: with 23 for another kind, with 25 for a withdraw with a hop.
+ * What an accepted record asks for: one of the three calls above, by the update's kind. An update that no accepted record carries is
+ * refused as reading refuses its record, before anything else is looked at: with 23 for another kind, with 25 for a withdraw with a hop.
  */
 static inline rk_report rk_tables_update(rk_tables *t, rk_update update) {
     rk_report refused = {RK_WRONG_KIND, 0};
@@ -280,8 +280,8 @@ static inline uint32_t rk_tables_look_up(const rk_tables *t, uint32_t address) {
 
 static inline uint32_t rk_tables_look_up_all(const rk_tables *t, const uint32_t *addresses, size_t address_count, uint32_t *answers,
                                              size_t answer_count) {
-    return rk_look_up_all(t->first, t->first_cells, t->long_table, t->long_cells, t->base, t->base_length, addresses, address_count, answers,
-                          answer_count);
+    return rk_look_up_all(t->first, t->first_cells, t->long_table, t->long_cells, t->base, t->base_length, addresses, address_count,
+                          answers, answer_count);
 }
 
 static inline uint32_t rk_tables_book(const rk_tables *t, uint64_t *octets, size_t octet_words, uint32_t address, uint64_t amount) {
