@@ -83,9 +83,11 @@ IS(RK_RECORD_BYTES, 15);
 IS(RK_WORDS, 32768);
 IS(RK_HOPS, 32767);
 
+/* Some arguments are such that a macro that left out its brackets would make another number of them. */
 enum {
-    CELLS_OF_0 = RK_FIRST_CELLS(0), CELLS_OF_12 = RK_FIRST_CELLS(13 - 1), CELLS_OF_24 = RK_FIRST_CELLS(RK_MOST_TERRITORY),
-    CELLS_IN_0 = RK_LONG_CELLS(0), CELLS_IN_3 = RK_LONG_CELLS(2 + 1), CELLS_IN_ALL = RK_LONG_CELLS(RK_MOST_SEGMENTS)
+    CELLS_OF_0 = RK_FIRST_CELLS(0), CELLS_OF_12 = RK_FIRST_CELLS(8 | 4), CELLS_OF_24 = RK_FIRST_CELLS(RK_MOST_TERRITORY),
+    CELLS_IN_0 = RK_LONG_CELLS(0), CELLS_IN_3 = RK_LONG_CELLS(2 + 1), CELLS_IN_ALL = RK_LONG_CELLS(RK_MOST_SEGMENTS),
+    CODE = RK_CODE(8 * 65536 | 7), HOP = RK_HOP(8 * 65536 | 7)
 };
 IS(CELLS_OF_0, 16777216);
 IS(CELLS_OF_12, 4096);
@@ -93,6 +95,8 @@ IS(CELLS_OF_24, 1);
 IS(CELLS_IN_0, 0);
 IS(CELLS_IN_3, 768);
 IS(CELLS_IN_ALL, 8388608);
+IS(CODE, 8);
+IS(HOP, 7);
 
 /* ------------------------------------------------------------------------------------------------- what is lent */
 
