@@ -1,8 +1,5 @@
-# make run: the small program on the paper's records.     make test: every check there is; .ci/run calls it.
-# make install PREFIX=/usr/local                           make soak SECONDS=600 SEED=7: the independent check, for longer
-# make sheet: the cost sheet of the sample files.           make command: the command rakmolthi, as target/bin/rakmolthi
-# make bench: beside DPDK and plain C; no part of the gate  make valgrind: the C example under valgrind; no part of the gate either
-.PHONY: run sheet test library program command c-check streams example command-check install soak bench valgrind clean
+# make help says what can be made: it prints the lines below that begin with ##.
+.PHONY: run sheet help test library program command c-check streams example command-check install soak bench valgrind clean
 
 PREFIX ?= /usr/local
 SECONDS ?= 600
@@ -16,18 +13,25 @@ SAMPLE = --territory 10.16.0.0/12 --updates examples/sheet/updates --flows examp
 SOURCES = crates.txt $(shell find crates -name '*.rt')
 CFLAGS = -std=c99 -O1 -Wall -Wextra -pedantic -Iinclude
 
+## run            the small program on the paper's eight update records
 run:
 	@[ -x $(PROGRAM) ] || echo 'make run: the program is proved and built first; that takes some minutes' >&2
 	@mkdir -p target
 	@$(MAKE) --no-print-directory program >target/run.log 2>&1 || { tail -20 target/run.log; exit 1; }
 	@tools/x86-run $(PROGRAM) <examples/records
 
+## sheet          the cost sheet of the sample files
 sheet:
 	@[ -x $(COMMAND) ] || echo 'make sheet: the library is proved and the command built first; that takes some minutes' >&2
 	@mkdir -p target
 	@$(MAKE) --no-print-directory command >target/sheet.log 2>&1 || { tail -20 target/sheet.log; exit 1; }
 	@tools/x86-run $(COMMAND) sheet $(SAMPLE)
 
+## help           these lines
+help:
+	@sed -n 's/^## /make /p' Makefile
+
+## test           every check there is, 20 to 30 minutes; .ci/run is this
 # The quick checks first; then the proofs, and what links what they built. The last line is rt ci's own.
 test:
 	@rt fmt --check
@@ -35,11 +39,13 @@ test:
 	@python3 check/test_model.py
 	@tools/prove-then c-check example command-check streams
 
+## library        the C library, proved: target/staticlib/librakmolthi.a
 library: $(LIBRARY)
 
 $(LIBRARY): $(SOURCES)
 	@rt staticlib rakmolthi >/dev/null
 
+## program        the small program, proved: target/bin/collector
 program: $(PROGRAM)
 
 # The kit's part in C, which tells why a read or a write failed, stands beside its guides.
@@ -48,13 +54,15 @@ $(PROGRAM): programs/collector.c $(SOURCES)
 	@mkdir -p target/bin
 	@tools/x86-cc $(CFLAGS) -static -o $@ programs/collector.c target/staticlib/libcollector.a "$$(dirname "$$(dirname "$$(rt doc)")")/lib/libos_c.a"
 
+## command        the command over the library: target/bin/rakmolthi
 command: $(COMMAND)
 
 $(COMMAND): $(COMMAND_SOURCES) programs/text.h programs/words.h include/rakmolthi.h $(LIBRARY)
 	@mkdir -p target/bin
 	@tools/x86-cc $(CFLAGS) -static -o $@ $(COMMAND_SOURCES) $(LIBRARY)
 
-# The header alone, as C99 and as C++; then the library against the independent model, for about a minute.
+## c-check        a part of test: the header as C99 and as C++; the library beside the independent model
+# The header alone first; then the library's calls and those on an rk_tables, for about a minute.
 c-check: library
 	@tools/x86-cc $(CFLAGS) -x c -fsyntax-only include/rakmolthi.h
 	@g++ -Wall -Wextra -pedantic -x c++ -fsyntax-only include/rakmolthi.h
@@ -62,11 +70,12 @@ c-check: library
 	@tools/x86-cc $(CFLAGS) -static -o target/c/driver check/driver.c $(LIBRARY)
 	@python3 check/check.py --seed 1 tools/x86-run target/c/driver
 
-# The small program on streams of all kinds, each line compared with the independent model.
+## streams        a part of test: the small program on streams of all kinds, beside the independent model
 streams: program
 	@python3 check/streams.py --seed 1 tools/x86-run $(PROGRAM)
 
-# The paper's records and the sample's, made again from their text; the small program and the C example on them, and what each is to say.
+## example        a part of test: the small program and the C example on the paper's records
+# The paper's records and the sample's are made again from their text; what each program is to say is stored.
 example: library program
 	@mkdir -p target/c
 	@examples/make-records <examples/records.txt | cmp - examples/records
@@ -76,7 +85,7 @@ example: library program
 	@tools/x86-run target/c/site 10.16.0.1 10.16.3.200 192.0.2.1 <examples/records >target/c/site.out
 	@cmp target/c/site.out examples/site.out && echo 'example: as it is to be'
 
-# The sheet of the sample files beside the stored ones; then good and wrong input, with all that the command is to say to it.
+## command-check  a part of test: the command on the sample files, and on good and wrong input
 command-check: command
 	@mkdir -p target/c
 	@tools/x86-run $(COMMAND) sheet $(SAMPLE) 2>target/c/sheet.err >target/c/sheet.txt
@@ -85,6 +94,7 @@ command-check: command
 	@cmp target/c/sheet.csv examples/sheet/sheet.csv
 	@python3 programs/test-sheet tools/x86-run $(COMMAND)
 
+## install        the library, the header and the command, under PREFIX=/usr/local
 install: library command
 	@case $$(uname -m) in x86_64) ;; *) echo "make install: the library and the command are x86-64 code: on this $$(uname -m) only a cross compiler can link the one (CC=x86_64-linux-gnu-gcc) and an emulator run the other" >&2 ;; esac
 	install -d $(DESTDIR)$(PREFIX)/bin $(DESTDIR)$(PREFIX)/include $(DESTDIR)$(PREFIX)/lib/pkgconfig
@@ -93,16 +103,20 @@ install: library command
 	install -m 755 $(COMMAND) $(DESTDIR)$(PREFIX)/bin/
 	sed 's|@PREFIX@|$(PREFIX)|' include/rakmolthi.pc.in >$(DESTDIR)$(PREFIX)/lib/pkgconfig/rakmolthi.pc
 
+## soak           the independent check for SECONDS=600, with cases drawn by SEED=1
 soak: library
 	@mkdir -p target/c
 	@tools/x86-cc $(CFLAGS) -static -o target/c/driver check/driver.c $(LIBRARY)
 	@python3 check/check.py --seconds $(SECONDS) --seed $(SEED) tools/x86-run target/c/driver
 
+## bench          speed beside DPDK and plain C, as docs/BENCH.md has it; no part of test
 bench:
 	@bench/run
 
+## valgrind       the C example under valgrind; no part of test
 valgrind:
 	@tools/valgrind-example
 
+## clean          removes target/
 clean:
 	rm -rf target

@@ -14,7 +14,7 @@
 #include <rte_lpm.h>
 #endif
 
-enum { BLOCKS = 1 << 24, RULES = 65536, ROUNDS = 11 };
+enum { BLOCKS = RK_FIRST_CELLS(0), RULES = RK_MOST_RULES, ROUNDS = 11 };
 static const int sizes[] = {1000, 10000, 60000};
 
 static double now(void) {
@@ -168,8 +168,8 @@ static void compare_with_peer(void) {
                 int k = rnd() % (i + 1);
                 uint32_t code = withdraw(m, RULES, seen[k].address, seen[k].length);
                 int answer = peer_delete(seen[k].address, seen[k].length);
-                if ((code == 0) != (answer == 0) || (code != 0 && code != 5)) fail("withdraw and rte_lpm_delete differ");
-                withdrawn += code == 0;
+                if ((code == RK_OK) != (answer == 0) || (code != RK_OK && code != RK_NOT_LIVE)) fail("withdraw and rte_lpm_delete differ");
+                withdrawn += code == RK_OK;
             }
         }
         for (int i = 0; i < ADDRESSES; i++) {
@@ -179,10 +179,11 @@ static void compare_with_peer(void) {
         }
         if (rk_look_up_all(m.first, BLOCKS, m.lng, 256 * m.segments, 0, 0, addresses, ADDRESSES, answers, ADDRESSES)) fail("look up");
         for (int i = 0; i < ADDRESSES; i++) {
-            uint32_t hop, theirs = rte_lpm_lookup(peer, addresses[i], &hop) == 0 ? hop : 8u << 16;
+            uint32_t hop, code = rte_lpm_lookup(peer, addresses[i], &hop) == 0 ? RK_OK : RK_NO_ROUTE;
             uint32_t one = rk_look_up((uint8_t *)m.first, 4ul * BLOCKS, (uint8_t *)m.lng, 1024 * m.segments, 0, 0, addresses[i]);
-            if (answers[i] != theirs || one != theirs) fail("an answer differs from rte_lpm_lookup's");
-            compared++, routed += theirs < 65536;
+            if (answers[i] != one) fail("rk_look_up_all differs from rk_look_up");
+            if (RK_CODE(one) != code || RK_HOP(one) != (code == RK_OK ? hop : 0)) fail("an answer differs from rte_lpm_lookup's");
+            compared++, routed += code == RK_OK;
         }
     }
     printf("\nThe same answers as rte_lpm: %zu addresses (%.0f%% routed) on %d random lists", compared, 100.0 * routed / compared, LISTS);
@@ -404,7 +405,7 @@ static double time_form(struct memory m, int turns) {
     while (m.first[block] >= POINTER) block++;
     double start = now();
     for (int i = 0; i < turns; i++)
-        if (withdraw(m, RULES, block * 256 + 77, 32) != 5) fail("withdraw");
+        if (withdraw(m, RULES, block * 256 + 77, 32) != RK_NOT_LIVE) fail("withdraw");
     return (now() - start) / turns;
 }
 static double time_plain_form(struct memory m, int turns) {
@@ -430,7 +431,7 @@ static void time_tests(void) {
         /* Just the live words are lent, so the list is full, and /0 is refused with 6 once all cells were tested. */
         for (int r = -1; r < ROUNDS; r++) {
             double start = now();
-            if (announce(m, counts[k], 0, 0, 1) != 6) fail("announce");
+            if (announce(m, counts[k], 0, 0, 1) != RK_NO_RULE_WORD) fail("announce");
             double a = now() - start;
             start = now();
             if (!plain_clean(m.first, BLOCKS)) fail("clean");

@@ -1,8 +1,7 @@
 /* The yardsticks of plain.h, in an object file of their own so that no compiler folds them into the loops that time them. */
 #include <stdlib.h>
 #include "plain.h"
-
-enum { HOPS = 32767 };
+#include "rakmolthi.h"
 
 static const uint32_t masks[33] = {
     0x00000000, 0x80000000, 0xc0000000, 0xe0000000, 0xf0000000, 0xf8000000, 0xfc000000, 0xfe000000, 0xff000000, 0xff800000, 0xffc00000,
@@ -46,8 +45,8 @@ void plain_look_up_all(const uint32_t *first, const uint32_t *long_table, const 
 
 void plain_add(const uint32_t *answers, const uint64_t *amounts, uint64_t *octets, size_t count) {
     for (size_t i = 0; i < count; i++) {
-        uint32_t code = answers[i] >> 16;
-        if (code == 0 || code == 8) octets[answers[i] & 0xffff] += amounts[i];
+        uint32_t code = RK_CODE(answers[i]);
+        if (code == RK_OK || code == RK_NO_ROUTE) octets[RK_HOP(answers[i])] += amounts[i];
     }
 }
 
@@ -71,8 +70,8 @@ static int dearer(const void *p, const void *q) {
 
 void plain_sheet(const uint64_t *octets, const uint64_t *cents, uint32_t *hops) {
     all_octets = octets, all_cents = cents;
-    for (uint32_t hop = 1; hop <= HOPS; hop++) hops[hop - 1] = hop;
-    qsort(hops, HOPS, sizeof *hops, dearer);
+    for (uint32_t hop = 1; hop <= RK_HOPS; hop++) hops[hop - 1] = hop;
+    qsort(hops, RK_HOPS, sizeof *hops, dearer);
 }
 
 /* Cents are at most 2^53, so a double holds them as well as a rate. */
@@ -89,14 +88,14 @@ static int dearer_line(const void *p, const void *q) {
 }
 
 void plain_sheet_of_lines(const uint64_t *octets, const uint64_t *cents, uint32_t *hops) {
-    static struct line lines[HOPS];
-    for (uint32_t hop = 1; hop <= HOPS; hop++) {
+    static struct line lines[RK_HOPS];
+    for (uint32_t hop = 1; hop <= RK_HOPS; hop++) {
         struct line line = {octets[hop] ? (double)cents[hop] / (double)octets[hop] : (double)cents[hop], 0, hop};
         line.kind = octets[hop] ? 1 : cents[hop] ? 0 : 2;
         lines[hop - 1] = line;
     }
-    qsort(lines, HOPS, sizeof *lines, dearer_line);
-    for (uint32_t i = 0; i < HOPS; i++) hops[i] = lines[i].hop;
+    qsort(lines, RK_HOPS, sizeof *lines, dearer_line);
+    for (uint32_t i = 0; i < RK_HOPS; i++) hops[i] = lines[i].hop;
 }
 
 size_t plain_form(const uint64_t *rules, size_t count, uint32_t base, uint32_t base_length) {

@@ -65,23 +65,31 @@ class Driver:
     def update(self, letter, numbers, sizes, dump):
         """(code, cells, guards, differing elements of each slice, contents of each slice or None)"""
         self.send(letter, struct.pack("<%dIB" % len(numbers), *numbers, dump))
+        return self.update_answer(sizes, dump)
+
+    def update_of_a_record(self, base, base_length, update, sizes, dump):
+        """The same of the call that an update asks for"""
+        self.send(struct.pack("<cIIBIIBHB", b"u", base, base_length, *update, dump))
+        return self.update_answer(sizes, dump)
+
+    def update_answer(self, sizes, dump):
         answer = struct.unpack("<IIH7I", self.receive(38))
         contents = [self.receive(size) for size in sizes] if dump else None
         return answer[0], answer[1], answer[2], answer[3:], contents
 
-    def look_up(self, base, base_length, addresses):
-        """(guards, changed, answers)"""
+    def look_up(self, base, base_length, addresses, on_tables):
+        """(guards, changed, for each address (number, code, hop) as the header takes the number apart)"""
         count = len(addresses)
-        self.send(struct.pack("<c3I%dI" % count, b"L", base, base_length, count, *addresses))
-        answer = struct.unpack("<HH%dI" % count, self.receive(4 + 4 * count))
-        return answer[0], answer[1], list(answer[2:])
+        self.send(struct.pack("<c3I%dI" % count, b"l" if on_tables else b"L", base, base_length, count, *addresses))
+        answer = struct.unpack("<HH", self.receive(4))
+        return answer[0], answer[1], list(struct.iter_unpack("<III", self.receive(12 * count)))
 
-    def look_up_all(self, base, base_length, addresses, room):
-        """(guards, changed, what was returned, answers)"""
+    def look_up_all(self, base, base_length, addresses, room, on_tables):
+        """(guards, changed, what was returned, the same for each place of the room)"""
         count = len(addresses)
-        self.send(struct.pack("<c4I%dI" % count, b"V", base, base_length, count, room, *addresses))
-        answer = struct.unpack("<HHI%dI" % room, self.receive(8 + 4 * room))
-        return answer[0], answer[1], answer[2], list(answer[3:])
+        self.send(struct.pack("<c4I%dI" % count, b"v" if on_tables else b"V", base, base_length, count, room, *addresses))
+        answer = struct.unpack("<HHI", self.receive(8))
+        return answer[0], answer[1], answer[2], list(struct.iter_unpack("<III", self.receive(12 * room)))
 
     def read_record(self, record, expected):
         """(guards, changed, code, update)"""
@@ -108,14 +116,14 @@ class Driver:
         self.send(b"Z")
         return self.octets_answer()
 
-    def book(self, base, base_length, address, amount):
-        self.send(struct.pack("<c3IQ", b"B", base, base_length, address, amount))
+    def book(self, base, base_length, address, amount, on_tables):
+        self.send(struct.pack("<c3IQ", b"b" if on_tables else b"B", base, base_length, address, amount))
         return self.octets_answer()
 
-    def book_all(self, base, base_length, addresses, amounts, room, shifts):
+    def book_all(self, base, base_length, addresses, amounts, room, shifts, on_tables):
         """The same of the whole call, and the codes of the records"""
-        self.send(struct.pack("<cII3B3I", b"K", base, base_length, *shifts, len(addresses), len(amounts), room),
-                  little_endian("I", addresses), little_endian("Q", amounts))
+        self.send(struct.pack("<cII3B3I", b"k" if on_tables else b"K", base, base_length, *shifts, len(addresses),
+                              len(amounts), room), little_endian("I", addresses), little_endian("Q", amounts))
         return self.octets_answer() + (numbers_of("I", self.receive(4 * room)),)
 
     def cost_lines(self, hops):
@@ -194,6 +202,25 @@ FORMS = ("I", "I", "I", "Q", "Q", "Q", "I")
 TABLES = NAMES[:4]
 MONEY = NAMES[4:7]
 
+LETTERS = {"clear": b"C", "announce": b"A", "withdraw": b"W", "re_home": b"H"}
+KIND_OF = {"announce": 1, "withdraw": 2, "re_home": 3}
+
+
+def packed(code, hop):
+    """Look up's answer in C: "the one number code x 65,536 + hop"."""
+    return code * 65536 + hop
+
+
+def parts(number):
+    """(code, hop)"""
+    return divmod(number, 65536)
+
+
+def update_for(name, address=0, length=0, hop=0):
+    """The update that asks for this call; None where its fields are too narrow, or where no update does."""
+    fits = name in KIND_OF and length < 256 and hop < 65536
+    return (KIND_OF[name], 7, address, length, hop) if fits else None
+
 
 # ---------------------------------------------------------------------------------------------------------------------
 # One call to both, and the comparison
@@ -213,6 +240,22 @@ class Both:
         self.call = ""                   # the call that is being made
         self.compared = 0
         self.codes = {}
+        self.first_turn = 0
+        self.turns = {}
+        self.on_tables = {}              # (call, code): how often, of all calls on an rk_tables
+
+    def take_turns(self, number):
+        """The ways to make a call take turns, from this one on: those of a case are the same when it is run again."""
+        self.first_turn = number
+        self.turns = {}
+
+    def turn(self, call, ways=2):
+        turn = self.turns.get(call, self.first_turn)
+        self.turns[call] = turn + 1
+        return turn % ways
+
+    def count_on_tables(self, call, code):
+        self.on_tables[(call, code)] = self.on_tables.get((call, code), 0) + 1
 
     def start_case(self):
         if self.octets or self.cents or self.hops:
@@ -254,14 +297,49 @@ class Both:
 
     # -- updates and clear
 
-    def update(self, name, letter, call, territory, numbers):
-        text = "%s(%s/%d%s)" % (name, ip(territory[0]), territory[1], "".join(
+    def sizes(self):
+        return [4 * len(self.lent.first), 4 * len(self.lent.long), 4 * len(self.lent.owners), 8 * len(self.lent.rules)]
+
+    def make_update(self, name, territory, numbers, sizes, dump):
+        """One of the library's calls that write the tables, or the same on an rk_tables, or what an update asks for: each in
+        its turn, the last where the update's fields are wide enough. Answers what the driver answers."""
+        update = update_for(name, *numbers)
+        way = self.turn(name, 3 if update else 2)
+        called = (name, "tables_" + name, "tables_update to " + name)[way]
+        self.call = "%s(%s/%d%s)" % (called, ip(territory[0]), territory[1], "".join(
             [", %s" % ip(n) if i == 0 else ", %d" % n for i, n in enumerate(numbers)]))
-        self.call = text
-        sizes = [4 * len(self.lent.first), 4 * len(self.lent.long), 4 * len(self.lent.owners), 8 * len(self.lent.rules)]
-        code, cells, guards, differing, contents = self.driver.update(letter, territory + numbers, sizes, 1)
+        if way == 2:
+            answer = self.driver.update_of_a_record(*territory, update, sizes, dump)
+        else:
+            letter = LETTERS[name].lower() if way else LETTERS[name]
+            answer = self.driver.update(letter, territory + numbers, sizes, dump)
+        if way:
+            self.count_on_tables(name if way == 1 else "update", answer[0])
+        return answer
+
+    def update(self, name, call, territory, numbers):
+        answer = self.make_update(name, territory, numbers, self.sizes(), 1)
+        return self.compare_update(answer, call, *territory, *numbers)
+
+    def apply(self, base, base_length, update):
+        """What an update asks for, also where no record carries it: that is refused as its record is."""
+        kind, serial, address, length, hop = update
+        self.call = "tables_update(%s/%d, %r)" % (ip(base), base_length, update)
+        answer = self.driver.update_of_a_record(base, base_length, update, self.sizes(), 1)
+        self.count_on_tables("update", answer[0])
+        refused = model.write_record(bytes(15), update)[0]
+        if refused:
+            return self.compare_update(answer, lambda lent: (refused, 0))
+        if kind == 2:
+            return self.compare_update(answer, model.withdraw, base, base_length, address, length)
+        call = {1: model.announce, 3: model.re_home}[kind]
+        return self.compare_update(answer, call, base, base_length, address, length, hop)
+
+    def compare_update(self, answer, call, *numbers):
+        """The driver's answer, with what the model's call answers and leaves."""
+        code, cells, guards, differing, contents = answer
         before = self.lent.copy()
-        wanted_code, wanted_cells = call(self.lent, *territory, *numbers)
+        wanted_code, wanted_cells = call(self.lent, *numbers)
         wrong = []
         if code != wanted_code:
             wrong.append("code: library %d, model %d" % (code, wanted_code))
@@ -284,21 +362,21 @@ class Both:
             wrong.append("the model itself wrote on a refusal")
         if wrong:
             raise Difference("\n  ".join(wrong))
-        self.log.append("%s -> code %d, cells %d" % (text, code, cells))
+        self.log.append("%s -> code %d, cells %d" % (self.call, code, cells))
         self.count("updates", code)
         return code, cells
 
     def clear(self, base, base_length):
-        return self.update("clear", b"C", lambda *a: (model.clear(*a), 0), (base, base_length), ())[0]
+        return self.update("clear", lambda *a: (model.clear(*a), 0), (base, base_length), ())[0]
 
     def announce(self, base, base_length, address, length, hop):
-        return self.update("announce", b"A", model.announce, (base, base_length), (address, length, hop))
+        return self.update("announce", model.announce, (base, base_length), (address, length, hop))
 
     def withdraw(self, base, base_length, address, length):
-        return self.update("withdraw", b"W", model.withdraw, (base, base_length), (address, length))
+        return self.update("withdraw", model.withdraw, (base, base_length), (address, length))
 
     def re_home(self, base, base_length, address, length, hop):
-        return self.update("re_home", b"H", model.re_home, (base, base_length), (address, length, hop))
+        return self.update("re_home", model.re_home, (base, base_length), (address, length, hop))
 
     def any_update(self, name, base, base_length, address, length, hop):
         if name == "withdraw":
@@ -310,24 +388,30 @@ class Both:
     def look_up(self, base, base_length, addresses):
         """Each address by look up (on bytes), and all of them by look up all. Answers the model's (code, hop) of each."""
         wanted = [model.look_up(self.lent.first, self.lent.long, base, base_length, address) for address in addresses]
-        self.compare_look_ups(base, base_length, addresses, [code * 65536 + hop for code, hop in wanted])
+        self.compare_look_ups(base, base_length, addresses, [packed(code, hop) for code, hop in wanted])
         return wanted
 
     def compare_look_ups(self, base, base_length, addresses, wanted):
+        """One of the two calls is the library's and the other is on an rk_tables, by turns."""
         where = "(%s/%d, %s)" % (ip(base), base_length, " ".join(ip(address) for address in addresses))
-        self.call = "look_up" + where
-        guards, changed, answers = self.driver.look_up(base, base_length, addresses)
+        on_tables = self.turn("look_up") == 1
+        self.call = ("tables_look_up" if on_tables else "look_up") + where
+        guards, changed, answers = self.driver.look_up(base, base_length, addresses, on_tables)
         self.compare_answers(addresses, wanted, guards, changed, answers)
-        self.call = "look_up_all" + where
-        self.compare_look_up_all(base, base_length, addresses, len(addresses), wanted)
-        self.compare_look_up_all(base, base_length, addresses, len(addresses) + 1, wanted)
+        self.call = ("look_up_all" if on_tables else "tables_look_up_all") + where
+        self.compare_look_up_all(base, base_length, addresses, len(addresses), wanted, not on_tables)
+        self.compare_look_up_all(base, base_length, addresses, len(addresses) + 1, wanted, not on_tables)
         for answer in wanted:
-            self.count("look ups", answer >> 16, 2)
+            self.count("look ups", parts(answer)[0], 2)
+            if on_tables:
+                self.count_on_tables("look_up", parts(answer)[0])
 
-    def compare_look_up_all(self, base, base_length, addresses, room, wanted):
+    def compare_look_up_all(self, base, base_length, addresses, room, wanted, on_tables):
         """1 and nothing written where look up answers 1 or the counts differ; else 0 and look up's answers."""
-        guards, changed, returned, answers = self.driver.look_up_all(base, base_length, addresses, room)
-        refused = room != len(addresses) or any(answer >> 16 == 1 for answer in wanted)
+        guards, changed, returned, answers = self.driver.look_up_all(base, base_length, addresses, room, on_tables)
+        if on_tables:
+            self.count_on_tables("look_up_all", returned)
+        refused = room != len(addresses) or any(parts(answer)[0] == 1 for answer in wanted)
         self.compare_answers(addresses, [UNTOUCHED] * room if refused else wanted, guards, changed, answers)
         if addresses and returned != (1 if refused else 0):
             raise Difference("look_up_all returned %d" % returned)
@@ -336,10 +420,12 @@ class Both:
         wrong = []
         if guards or changed:
             wrong.append("a look up wrote memory: guards %#x, slices changed %#x" % (guards, changed))
-        for address, got, right in zip(addresses, answers, wanted):
+        for address, (got, code, hop), right in zip(addresses, answers, wanted):
             if got != right:
-                wrong.append("%s: library code %d hop %d, model code %d hop %d"
-                             % (ip(address), got >> 16, got & 65535, right >> 16, right & 65535))
+                wrong.append("%s: library code %d hop %d, model code %d hop %d" % (ip(address), *parts(got), *parts(right)))
+            elif (code, hop) != parts(right):
+                wrong.append("%s: the header takes %d for code %d hop %d, it is code %d hop %d"
+                             % (ip(address), got, code, hop, *parts(right)))
         if wrong:
             raise Difference("\n  ".join(wrong[:40]))
 
@@ -351,11 +437,11 @@ class Both:
             ip(base), base_length, " ".join(ip(address) for address in addresses), *shifts)
         self.driver.lend(0, first, shifts[0])
         self.driver.lend(1, long, shifts[1])
-        guards, changed, answers = self.driver.look_up(base, base_length, addresses)
+        guards, changed, answers = self.driver.look_up(base, base_length, addresses, False)
         wanted = [model.look_up_bytes(first, long, base, base_length, address) for address in addresses]
         self.compare_answers(addresses, wanted, guards, changed, answers)
         for answer in wanted:
-            self.count("look ups", answer >> 16)
+            self.count("look ups", parts(answer)[0])
 
     # -- records
 
@@ -422,9 +508,12 @@ class Both:
         return code
 
     def book(self, base, base_length, address, amount):
-        self.call = "book(%s/%d, %s, %d)" % (ip(base), base_length, ip(address), amount)
+        on_tables = self.turn("book") == 1
+        self.call = "%s(%s/%d, %s, %d)" % ("tables_book" if on_tables else "book", ip(base), base_length, ip(address), amount)
         before = list(self.octets)
-        guards, changed, code, changes = self.driver.book(base, base_length, address, amount)
+        guards, changed, code, changes = self.driver.book(base, base_length, address, amount, on_tables)
+        if on_tables:
+            self.count_on_tables("book", code)
         wanted = model.book(self.lent.first, self.lent.long, self.octets, base, base_length, address, amount)
         self.compare_octets(before, guards, changed, code, wanted, changes)
         self.count("bookings", code)
@@ -434,12 +523,15 @@ class Both:
 
     def book_all(self, base, base_length, addresses, amounts, room, shifts=(0, 0, 0)):
         """(the number of the whole, the room for codes afterwards)"""
-        self.call = "book_all(%s/%d, %d: %s; %d: %s; room for %d)" % (
-            ip(base), base_length, len(addresses), " ".join(ip(address) for address in addresses),
-            len(amounts), " ".join("%d" % amount for amount in amounts), room)
+        on_tables = self.turn("book_all") == 1
+        self.call = "%s(%s/%d, %d: %s; %d: %s; room for %d)" % (
+            "tables_book_all" if on_tables else "book_all", ip(base), base_length, len(addresses),
+            " ".join(ip(address) for address in addresses), len(amounts), " ".join("%d" % amount for amount in amounts), room)
         before = list(self.octets)
         guards, changed, code, changes, codes = self.driver.book_all(base, base_length, addresses, amounts, room,
-                                                                     shifts)
+                                                                     shifts, on_tables)
+        if on_tables:
+            self.count_on_tables("book_all", code)
         wanted_codes = [UNTOUCHED] * room
         wanted = model.book_all(self.lent.first, self.lent.long, self.octets, base, base_length, addresses, amounts,
                                 wanted_codes)
@@ -1122,6 +1214,14 @@ def sizes_and_numbers(both, rng, number):
                 lent.rules[0] += 32768
         both.lend(lent, draw_shifts(rng))
         all_calls(both, rng, b, t, a, l, h)
+    # updates that no record carries, and others: 23 and 25 come before 1, and before all else
+    for kind in (0, 4, 5, 129, 255, 1, 2, 2, 2, 2, 3):
+        lent = right.copy()
+        if rng.random() < 0.5:
+            lent.owners.append(0)
+        both.lend(lent, draw_shifts(rng))
+        both.apply(base, base_length, (kind, rng.randrange(TOP), address, rng.choice([length, length, 33, 255]),
+                                       rng.choice([0, 0, 1, 256, hop, 32768, 65535])))
 
 
 def big_sizes(both, rng):
@@ -1305,12 +1405,10 @@ def figures(both, rng, number):
             driver.lend(which, contents, 0)
         return [len(first), len(long), len(owners), len(rules)]
 
-    def call(letter, numbers, sizes, wanted, after=None):
+    def call(name, numbers, sizes, wanted, after=None):
         """One update at T = 0. `after` holds what the four slices must be; without it the driver counts what differs."""
-        both.call = "%s(0.0.0.0/0%s)" % ({b"C": "clear", b"A": "announce", b"W": "withdraw", b"H": "re_home"}[letter],
-                                         "".join(", %d" % n for n in numbers))
-        code, count, guards, differing, contents = driver.update(letter, (0, 0) + numbers, sizes, 1 if after else 0)
-        if (code, count) != wanted or guards or (letter != b"C" and differing[0] + differing[1] != wanted[1]):
+        code, count, guards, differing, contents = both.make_update(name, (0, 0), numbers, sizes, 1 if after else 0)
+        if (code, count) != wanted or guards or (name != "clear" and differing[0] + differing[1] != wanted[1]):
             raise Difference("library code %d, cells %d (guards %#x, words that differ %r), right are code %d, cells %d"
                              % (code, count, guards, differing, *wanted))
         if after:
@@ -1326,24 +1424,24 @@ def figures(both, rng, number):
 
     # the eight lookups
     sizes = whole(word(99) * cells, word(98) * 256, word(97), bytes(8 * 8))
-    call(b"C", (), sizes, (0, 0), [bytes(size) for size in sizes])
+    call("clear", (), sizes, (0, 0), [bytes(size) for size in sizes])
     for address, length, hop in [("224.0.0.0", 3, 1), ("128.0.0.0", 2, 2), ("160.0.0.0", 4, 3), ("168.0.0.0", 5, 4)]:
-        call(b"A", (dotted(address), length, hop), sizes, (0, 2 ** (24 - length)))
+        call("announce", (dotted(address), length, hop), sizes, (0, 2 ** (24 - length)))
     eight = [("168.0.0.1", 4), ("175.255.255.255", 4), ("167.255.255.255", 3), ("176.0.0.0", 2), ("224.0.0.0", 1),
-             ("192.0.0.0", 8 * 65536), ("223.255.255.255", 8 * 65536), ("0.0.0.0", 8 * 65536)]
+             ("192.0.0.0", packed(8, 0)), ("223.255.255.255", packed(8, 0)), ("0.0.0.0", packed(8, 0))]
     answers([(dotted(address), answer) for address, answer in eight])
     # a /0 under all of them, changed and gone again: it fills exactly what had no route
     empty = cells - 2 ** 21 - 2 ** 22
-    call(b"A", (0, 0, 6), sizes, (0, empty))
-    answers([(dotted(address), 6 if answer == 8 * 65536 else answer) for address, answer in eight])
-    call(b"A", (TOP - 1, 32, 10), sizes, (0, 257))
+    call("announce", (0, 0, 6), sizes, (0, empty))
+    answers([(dotted(address), 6 if answer == packed(8, 0) else answer) for address, answer in eight])
+    call("announce", (TOP - 1, 32, 10), sizes, (0, 257))
     answers([(TOP - 1, 10), (TOP - 2, 1)])
-    call(b"H", (0, 0, 7), sizes, (0, empty))
-    answers([(dotted(address), 7 if answer == 8 * 65536 else answer) for address, answer in eight])
-    call(b"W", (0, 0), sizes, (0, empty))
+    call("re_home", (0, 0, 7), sizes, (0, empty))
+    answers([(dotted(address), 7 if answer == packed(8, 0) else answer) for address, answer in eight])
+    call("withdraw", (0, 0), sizes, (0, empty))
     answers([(dotted(address), answer) for address, answer in eight])
-    call(b"W", (TOP - 1, 32), sizes, (0, 257))
-    call(b"W", (0, 0), sizes, (5, 0))
+    call("withdraw", (TOP - 1, 32), sizes, (0, 257))
+    call("withdraw", (0, 0), sizes, (5, 0))
 
     # cells of length 0 beside cells 0, as no history leaves them: the tables hold, over and over, no route, a /0 cell of
     # the live hop, a /0 cell of another hop, a cell of length 8 and one of length 24; live are 0.0.0.0/0 and 1.0.0.0/8
@@ -1361,17 +1459,17 @@ def figures(both, rng, number):
     inside = model.direct(5, 8)
     outer, inner = table(a, 0, 0, d, e), table(a, inside, inside, d, e)
     after = outer[:4 * 65536] + inner[4 * 65536:8 * 65536] + outer[8 * 65536:]
-    call(b"W", (0, 0), sizes, (0, how_many(0, cells, 1, 2)), [after, b"", b"", words((2 ** 24, 8, 5))])
+    call("withdraw", (0, 0), sizes, (0, how_many(0, cells, 1, 2)), [after, b"", b"", words((2 ** 24, 8, 5))])
     # re-homed: cells 0 and cells of length 0 are replaced
     sizes = whole(before, b"", b"", words(*rules))
     new = model.direct(9, 0)
-    call(b"H", (0, 0, 9), sizes, (0, how_many(0, cells, 0, 1)),
+    call("re_home", (0, 0, 9), sizes, (0, how_many(0, cells, 0, 1)),
          [table(new, new, new, d, e), b"", b"", words((0, 0, 9), (2 ** 24, 8, 5))])
     # a new /8 over cells 0 and cells of length 0
     sizes = whole(before, b"", b"", words((0, 0, 7)))
     new = model.direct(4, 8)
     painted = table(new, new, new, new, e)
-    call(b"A", (255 * 2 ** 24, 8, 4), sizes, (0, how_many(255 * 65536, cells, 0, 1, 2, 3)),
+    call("announce", (255 * 2 ** 24, 8, 4), sizes, (0, how_many(255 * 65536, cells, 0, 1, 2, 3)),
          [before[:4 * 255 * 65536] + painted[4 * 255 * 65536:], b"", b"", words((0, 0, 7), (255 * 2 ** 24, 8, 4))])
     # the same withdraw with one block open, 1.0.5.0: there too cells of length 0 go and cells 0 stay
     block = 65536 + 5
@@ -1382,15 +1480,15 @@ def figures(both, rng, number):
     sizes = whole(before[:at] + word(POINTER) + before[at + 4:], segment, word(block + 1), words(*rules))
     segment = (b"".join(word(cell) for cell in (a, f, f, f)) * 32
                + b"".join(word(cell) for cell in (a, inside, inside, f)) * 32)
-    call(b"W", (0, 0), sizes, (0, how_many(0, cells, 1, 2) - (1 if block % 5 in (1, 2) else 0) + 128),
+    call("withdraw", (0, 0), sizes, (0, how_many(0, cells, 1, 2) - (1 if block % 5 in (1, 2) else 0) + 128),
          [after[:at] + word(POINTER) + after[at + 4:], segment, word(block + 1), words(*rules[1:])])
     # then the /25 is re-homed and withdrawn, and its block closes to the /8
     segment = word(model.direct(9, 25)) * 128 + segment[512:]
     after = after[:at] + word(POINTER) + after[at + 4:]
-    call(b"H", (256 * block, 25, 9), sizes, (0, 128),
+    call("re_home", (256 * block, 25, 9), sizes, (0, 128),
          [after, segment, word(block + 1), words(rules[1], (256 * block, 25, 9))])
     after = after[:at] + word(inside) + after[at + 4:]
-    call(b"W", (256 * block, 25), sizes, (0, 1 + 128 + 96), [after, bytes(1024), word(0), words(rules[1])])
+    call("withdraw", (256 * block, 25), sizes, (0, 1 + 128 + 96), [after, bytes(1024), word(0), words(rules[1])])
     whole(b"", b"", b"", b"")
 
 
@@ -1807,6 +1905,14 @@ TO_SEE = {
 }
 
 
+# The codes that a run of all rounds of all kinds must have seen from each call on an rk_tables.
+TO_SEE_ON_TABLES = {
+    "clear": (0, 1), "announce": (0, 1, 2, 3, 4, 6, 7), "withdraw": (0, 1, 2, 3, 4, 5), "re_home": (0, 1, 2, 3, 4, 5),
+    "update": (0, 1, 2, 3, 4, 5, 6, 7, 23, 25), "look_up": (0, 1, 3, 4, 8), "look_up_all": (0, 1),
+    "book": (0, 1, 3, 4, 30), "book_all": (0, 1),
+}
+
+
 def too_slow(signal_number, frame):
     raise Difference("the library did not answer for two minutes")
 
@@ -1828,6 +1934,7 @@ def main():
 
     def run(letter, number):
         both.start_case()
+        both.take_turns(number)
         both.compared, both.codes = 0, {}
         try:
             KINDS[letter][1](both, random.Random("%d/%s/%d" % (arguments.seed, letter, number)), number)
@@ -1862,11 +1969,18 @@ def main():
             print("%s %-32s %6d cases %8d calls compared  (%s)" % (letter, KINDS[letter][0], cases, compared, "; ".join(
                 group + " " + " ".join("%d:%d" % (code, codes[(g, code)]) for g, code in sorted(codes) if g == group)
                 for group in sorted({g for g, code in codes}, reverse=True))))
+    if both.on_tables:
+        print("on an rk_tables: %s" % "; ".join(
+            call + " " + " ".join("%d:%d" % (code, both.on_tables[(call, code)]) for c, code in sorted(both.on_tables)
+                                  if c == call) for call in sorted({call for call, code in both.on_tables})))
     if status != 0:
         print("the driver ended with status %d" % status)
         sys.exit(1)
     unseen = ["%s: %s %d" % (letter, group, code) for letter in TO_SEE if letter in arguments.kinds and rounds >= ROUNDS
               for group, codes in TO_SEE[letter].items() for code in codes if (group, code) not in calls[letter][2]]
+    if rounds >= ROUNDS and set(KINDS) <= set(arguments.kinds):
+        unseen += ["tables_%s %d" % (call, code) for call, codes in TO_SEE_ON_TABLES.items() for code in codes
+                   if (call, code) not in both.on_tables]
     if unseen:
         print("check: these were never seen: %s" % ", ".join(unseen))
         sys.exit(1)

@@ -11,10 +11,11 @@
      A  base:4 length:4 address:4 length:4 hop:4 dump:1              announce
      W  base:4 length:4 address:4 length:4 dump:1                    withdraw
      H  base:4 length:4 address:4 length:4 hop:4 dump:1              re-home
+     u  base:4 length:4 update dump:1                                what an update asks for
      L  base:4 length:4 count:4 addresses                            look up, one call for each address
      V  base:4 length:4 count:4 room:4 addresses                     look up all, one call
      R  expected:4 bytes:4 contents                                  read a record
-     P  kind:1 serial:4 address:4 length:1 hop:2 bytes:4 contents    write a record into a room with these contents
+     P  update bytes:4 contents                                      write a record into a room with these contents
      Z                                                               clear the octets
      B  base:4 length:4 address:4 amount:8                           book
      K  base:4 length:4 shift:1 x 3 count:4 x 3 addresses amounts    book all, one call: addresses, amounts:8, codes
@@ -22,13 +23,14 @@
      S                                                               cost sheet
      Q                                                               end
 
-   and the answers are
+   where an update is kind:1 serial:4 address:4 length:1 hop:2. Each of C, A, W, H, L, V, B and K as a small letter is the same
+   call on an rk_tables, and u is rk_tables_update. The answers are
 
      D         contents
-     C A W H   code:4 cells:4 guards:2 differing:4 x 7, and with dump the contents of the first four slices
-     L         guards:2 changed:2 answers:4 x count
-     V         guards:2 changed:2 returned:4 answers:4 x room
-     R         guards:2 changed:2 code:4 kind:1 serial:4 address:4 length:1 hop:2
+     C A W H u code:4 cells:4 guards:2 differing:4 x 7, and with dump the contents of the first four slices
+     L         guards:2 changed:2, and number:4 code:4 hop:4 for each address, the last two as RK_CODE and RK_HOP have them
+     V         guards:2 changed:2 returned:4, and the same three for each place of the room
+     R         guards:2 changed:2 code:4 update
      P         guards:2 changed:2 code:4 contents
      Z B       guards:2 changed:2 code:4 octets
      K         guards:2 changed:2 code:4 octets codes:4 x count
@@ -45,6 +47,58 @@
 #include <stdio.h>
 #include <stdlib.h>
 #include <string.h>
+
+/* ------------------------------------------------------------------------------------------------- the header's numbers */
+
+/* The numbers are the paper's, and request [2]'s: where one is not, this does not compile. */
+#define IS(name, number) typedef char name##_is_##number[(name) == (number) ? 1 : -1]
+
+IS(RK_OK, 0);
+IS(RK_WRONG_SIZES, 1);
+IS(RK_WRONG_NUMBERS, 2);
+IS(RK_OUTSIDE, 3);
+IS(RK_DAMAGE, 4);
+IS(RK_NOT_LIVE, 5);
+IS(RK_NO_RULE_WORD, 6);
+IS(RK_NO_SEGMENT, 7);
+IS(RK_NO_ROUTE, 8);
+IS(RK_CUT_RECORD, 20);
+IS(RK_WRONG_LENGTH_FIELD, 21);
+IS(RK_WRONG_VERSION, 22);
+IS(RK_WRONG_KIND, 23);
+IS(RK_WRONG_SERIAL, 24);
+IS(RK_WITHDRAW_WITH_HOP, 25);
+IS(RK_NO_RECORD_ROOM, 26);
+IS(RK_TOO_MANY_OCTETS, 30);
+IS(RK_TOO_MANY_CENTS, 31);
+IS(RK_ANNOUNCE, 1);
+IS(RK_WITHDRAW, 2);
+IS(RK_RE_HOME, 3);
+IS(RK_BLOCK_CELLS, 256);
+IS(RK_MOST_TERRITORY, 24);
+IS(RK_MOST_SEGMENTS, 32768);
+IS(RK_MOST_RULES, 65536);
+IS(RK_LAST_HOP, 32767);
+IS(RK_RECORD_BYTES, 15);
+IS(RK_WORDS, 32768);
+IS(RK_HOPS, 32767);
+
+/* Some arguments are such that a macro that left out its brackets would make another number of them. */
+enum {
+    CELLS_OF_0 = RK_FIRST_CELLS(0), CELLS_OF_12 = RK_FIRST_CELLS(8 | 4), CELLS_OF_24 = RK_FIRST_CELLS(RK_MOST_TERRITORY),
+    CELLS_IN_0 = RK_LONG_CELLS(0), CELLS_IN_3 = RK_LONG_CELLS(2 + 1), CELLS_IN_ALL = RK_LONG_CELLS(RK_MOST_SEGMENTS),
+    CODE = RK_CODE(8 * 65536 | 7), HOP = RK_HOP(8 * 65536 | 7)
+};
+IS(CELLS_OF_0, 16777216);
+IS(CELLS_OF_12, 4096);
+IS(CELLS_OF_24, 1);
+IS(CELLS_IN_0, 0);
+IS(CELLS_IN_3, 768);
+IS(CELLS_IN_ALL, 8388608);
+IS(CODE, 8);
+IS(HOP, 7);
+
+/* ------------------------------------------------------------------------------------------------- what is lent */
 
 enum { GUARD = 256, SLICES = 7, TABLES = 4, OCTETS = 4, CENTS = 5, SHEET = 6 };
 
@@ -82,6 +136,25 @@ static void give(const void *from, size_t bytes) { if (bytes) fwrite(from, 1, by
 static void give8(uint32_t v) { uint8_t b = (uint8_t)v; give(&b, 1); }
 static void give16(uint32_t v) { give8(v); give8(v >> 8); }
 static void give32(uint32_t v) { give16(v); give16(v >> 16); }
+
+static rk_update take_update(void)
+{
+    rk_update update;
+    memset(&update, 0xFF, sizeof update);      /* the gaps between the fields carry no news */
+    update.kind = take8();
+    update.serial = take32();
+    update.address = take32();
+    update.length = take8();
+    update.hop = take16();
+    return update;
+}
+
+static void give_number(uint32_t number)
+{
+    give32(number);
+    give32(RK_CODE(number));
+    give32(RK_HOP(number));
+}
 
 /* ------------------------------------------------------------------------------------------------- slices with guards */
 
@@ -192,6 +265,12 @@ static void give_octets(void)
 #define PAID   ((uint64_t *)(void *)lent[CENTS].start), lent[CENTS].bytes / 8
 #define HOPS   ((uint32_t *)(void *)lent[SHEET].start), lent[SHEET].bytes / 4
 
+static rk_tables tables(uint32_t base, uint32_t base_length)
+{
+    rk_tables t = { FIRST, LONG, OWNERS, RULES, base, base_length };
+    return t;
+}
+
 static void lend(void)
 {
     uint8_t which = take8(), shift = take8();
@@ -212,10 +291,11 @@ static void update(char call)
 {
     uint32_t base = take32(), base_length = take32();
     uint32_t address = 0, length = 0, hop = 0;
+    rk_tables t = tables(base, base_length);
     rk_report report = { 0, 0 };
     int dump;
-    if (call != 'C') { address = take32(); length = take32(); }
-    if (call == 'A' || call == 'H') hop = take32();
+    if (!strchr("Cc", call)) { address = take32(); length = take32(); }
+    if (strchr("AaHh", call)) hop = take32();
     dump = take8();
     lent_before();
     switch (call) {
@@ -223,28 +303,46 @@ static void update(char call)
     case 'A': report = rk_announce(FIRST, LONG, OWNERS, RULES, base, base_length, address, length, hop); break;
     case 'W': report = rk_withdraw(FIRST, LONG, OWNERS, RULES, base, base_length, address, length); break;
     case 'H': report = rk_re_home(FIRST, LONG, OWNERS, RULES, base, base_length, address, length, hop); break;
+    case 'c': report.code = rk_tables_clear(&t); break;
+    case 'a': report = rk_tables_announce(&t, address, length, hop); break;
+    case 'w': report = rk_tables_withdraw(&t, address, length); break;
+    case 'h': report = rk_tables_re_home(&t, address, length, hop); break;
     }
     answer_update(report, dump);
 }
 
-static void look_up(void)
+static void update_of_a_record(void)
+{
+    uint32_t base = take32(), base_length = take32();
+    rk_update update = take_update();
+    int dump = take8();
+    rk_tables t = tables(base, base_length);
+    lent_before();
+    answer_update(rk_tables_update(&t, update), dump);
+}
+
+static void look_up(int on_tables)
 {
     uint32_t base = take32(), base_length = take32(), count = take32(), i;
     uint32_t *numbers = memory(4 * (size_t)count);
+    const rk_tables t = tables(base, base_length);
     for (i = 0; i < count; i++) numbers[i] = take32();
     lent_before();
     for (i = 0; i < count; i++)
-        numbers[i] = rk_look_up(lent[0].start, lent[0].bytes, lent[1].start, lent[1].bytes, base, base_length, numbers[i]);
+        numbers[i] = on_tables ? rk_tables_look_up(&t, numbers[i])
+                               : rk_look_up(lent[0].start, lent[0].bytes, lent[1].start, lent[1].bytes, base, base_length,
+                                            numbers[i]);
     give16(lent_guards());
     give16(lent_changed());
-    for (i = 0; i < count; i++) give32(numbers[i]);
+    for (i = 0; i < count; i++) give_number(numbers[i]);
     free(numbers);
 }
 
-static void look_up_all(void)
+static void look_up_all(int on_tables)
 {
     static slice addresses, answers;
-    uint32_t base = take32(), base_length = take32(), count = take32(), room = take32(), returned, number;
+    uint32_t base = take32(), base_length = take32(), count = take32(), room = take32(), returned, number, *a, *r;
+    const rk_tables t = tables(base, base_length);
     size_t i;
     set_up(&addresses, 4 * (size_t)count, 0);
     set_up(&answers, 4 * (size_t)room, 0);
@@ -252,12 +350,14 @@ static void look_up_all(void)
     memset(answers.start, 0xEE, answers.bytes);
     lent_before();
     before_call(&addresses);
-    returned = rk_look_up_all(FIRST, LONG, base, base_length, (uint32_t *)(void *)addresses.start, count,
-                              (uint32_t *)(void *)answers.start, room);
+    a = (uint32_t *)(void *)addresses.start;
+    r = (uint32_t *)(void *)answers.start;
+    returned = on_tables ? rk_tables_look_up_all(&t, a, count, r, room)
+                         : rk_look_up_all(FIRST, LONG, base, base_length, a, count, r, room);
     give16(lent_guards() | (uint32_t)guards_broken(&addresses) << 7 | (uint32_t)guards_broken(&answers) << 8);
     give16(lent_changed() | (uint32_t)changed(&addresses) << 7);
     give32(returned);
-    for (i = 0; i < room; i++) { memcpy(&number, answers.start + 4 * i, 4); give32(number); }
+    for (i = 0; i < room; i++) { memcpy(&number, answers.start + 4 * i, 4); give_number(number); }
 }
 
 static void read_record(void)
@@ -283,15 +383,8 @@ static void read_record(void)
 static void write_record(void)
 {
     static slice room;
-    uint32_t bytes, code;
-    rk_update update;
-    memset(&update, 0xFF, sizeof update);      /* the gaps between the fields carry no news */
-    update.kind = take8();
-    update.serial = take32();
-    update.address = take32();
-    update.length = take8();
-    update.hop = take16();
-    bytes = take32();
+    rk_update update = take_update();
+    uint32_t bytes = take32(), code;
     set_up(&room, bytes, 0);
     take(room.start, bytes);
     lent_before();
@@ -313,22 +406,26 @@ static void clear_octets(void)
     give_octets();
 }
 
-static void book(void)
+static void book(int on_tables)
 {
     uint32_t base = take32(), base_length = take32(), address = take32(), code;
     uint64_t amount = take64();
+    const rk_tables t = tables(base, base_length);
     lent_before();
-    code = rk_book(FIRST, LONG, FLOWN, base, base_length, address, amount);
+    code = on_tables ? rk_tables_book(&t, FLOWN, address, amount)
+                     : rk_book(FIRST, LONG, FLOWN, base, base_length, address, amount);
     give16(lent_guards());
     give16(changed_but(OCTETS));
     give32(code);
     give_octets();
 }
 
-static void book_all(void)
+static void book_all(int on_tables)
 {
     static slice addresses, amounts, codes;
-    uint32_t base = take32(), base_length = take32(), shift[3], count[3], returned;
+    uint32_t base = take32(), base_length = take32(), shift[3], count[3], returned, *a, *c;
+    uint64_t *m;
+    const rk_tables t = tables(base, base_length);
     int k;
     for (k = 0; k < 3; k++) shift[k] = take8();
     for (k = 0; k < 3; k++) count[k] = take32();
@@ -341,8 +438,11 @@ static void book_all(void)
     lent_before();
     before_call(&addresses);
     before_call(&amounts);
-    returned = rk_book_all(FIRST, LONG, FLOWN, base, base_length, (uint32_t *)(void *)addresses.start, count[0],
-                           (uint64_t *)(void *)amounts.start, count[1], (uint32_t *)(void *)codes.start, count[2]);
+    a = (uint32_t *)(void *)addresses.start;
+    m = (uint64_t *)(void *)amounts.start;
+    c = (uint32_t *)(void *)codes.start;
+    returned = on_tables ? rk_tables_book_all(&t, FLOWN, a, count[0], m, count[1], c, count[2])
+                         : rk_book_all(FIRST, LONG, FLOWN, base, base_length, a, count[0], m, count[1], c, count[2]);
     give16(lent_guards() | (uint32_t)guards_broken(&addresses) << 7 | (uint32_t)guards_broken(&amounts) << 8
            | (uint32_t)guards_broken(&codes) << 9);
     give16(changed_but(OCTETS) | (uint32_t)changed(&addresses) << 7 | (uint32_t)changed(&amounts) << 8);
@@ -388,15 +488,17 @@ int main(void)
     while ((command = getchar()) != EOF && command != 'Q') {
         switch (command) {
         case 'M': lend(); continue;
-        case 'C': case 'A': case 'W': case 'H': update((char)command); break;
-        case 'L': look_up(); break;
-        case 'V': look_up_all(); break;
+        case 'C': case 'A': case 'W': case 'H':
+        case 'c': case 'a': case 'w': case 'h': update((char)command); break;
+        case 'u': update_of_a_record(); break;
+        case 'L': case 'l': look_up(command == 'l'); break;
+        case 'V': case 'v': look_up_all(command == 'v'); break;
         case 'R': read_record(); break;
         case 'P': write_record(); break;
         case 'D': show(); break;
         case 'Z': clear_octets(); break;
-        case 'B': book(); break;
-        case 'K': book_all(); break;
+        case 'B': case 'b': book(command == 'b'); break;
+        case 'K': case 'k': book_all(command == 'k'); break;
         case 'I': cost_lines(); break;
         case 'S': cost_sheet(); break;
         default: fprintf(stderr, "driver: no command %d\n", command); return 2;

@@ -9,28 +9,24 @@
 
 #include "rakmolthi.h"
 
-enum { CELLS = 1 << 24, SEGMENTS = 1024, RULES = 65536 };
+enum { SEGMENTS = 1024 };
 
 int main(int argc, char **argv) {
-    uint32_t *first = malloc(CELLS * sizeof *first), *segments = malloc(256 * SEGMENTS * sizeof *segments);
-    uint32_t *owners = malloc(SEGMENTS * sizeof *owners), expected = 0;
-    uint64_t *rules = malloc(RULES * sizeof *rules);
-    uint8_t record[15];
+    rk_tables t = {.first_cells = RK_FIRST_CELLS(0), .long_cells = RK_LONG_CELLS(SEGMENTS), .owner_words = SEGMENTS,
+                   .rule_words = RK_MOST_RULES, .base = 0, .base_length = 0};
+    uint8_t record[RK_RECORD_BYTES];
+    uint32_t expected = 0;
     size_t got;
-    if (!first || !segments || !owners || !rules) return fputs("site: no memory\n", stderr), 1;
-#define LENT first, CELLS, segments, 256 * SEGMENTS, owners, SEGMENTS, rules, RULES, 0, 0
-    if (rk_clear(LENT) != 0) return fputs("site: the memory lent has another size\n", stderr), 1;
+    t.first = malloc(t.first_cells * sizeof *t.first), t.long_table = malloc(t.long_cells * sizeof *t.long_table);
+    t.owners = malloc(t.owner_words * sizeof *t.owners), t.rules = malloc(t.rule_words * sizeof *t.rules);
+    if (!t.first || !t.long_table || !t.owners || !t.rules) return fputs("site: no memory\n", stderr), 1;
+    if (rk_tables_clear(&t) != RK_OK) return fputs("site: the memory lent has another size\n", stderr), 1;
 
-    while ((got = fread(record, 1, sizeof record, stdin)) > 0) {
+    for (; (got = fread(record, 1, sizeof record, stdin)) > 0; expected++) {
         rk_reading reading = rk_read_record(record, got, expected);
-        rk_update u = reading.update;
-        rk_report report = {0, 0};
-        if (reading.code != 0) return fprintf(stderr, "site: record %u refused with %u\n", expected, reading.code), 1;
-        if (u.kind == 1) report = rk_announce(LENT, u.address, u.length, u.hop);
-        if (u.kind == 2) report = rk_withdraw(LENT, u.address, u.length);
-        if (u.kind == 3) report = rk_re_home(LENT, u.address, u.length, u.hop);
-        printf("update %u: code %u, %u cells\n", u.serial, report.code, report.cells);
-        expected = u.serial + 1;
+        if (reading.code != RK_OK) return fprintf(stderr, "site: record %u refused with %u\n", expected, reading.code), 1;
+        rk_report report = rk_tables_update(&t, reading.update);
+        printf("update %u: code %u, %u cells\n", expected, report.code, report.cells);
     }
     if (ferror(stdin)) return perror("site: standard input"), 1;
 
@@ -38,12 +34,11 @@ int main(int argc, char **argv) {
         unsigned a, b, c, d;
         if (sscanf(argv[i], "%u.%u.%u.%u", &a, &b, &c, &d) != 4 || (a | b | c | d) > 255)
             return fprintf(stderr, "site: %s is no address\n", argv[i]), 1;
-        uint32_t number = rk_look_up((const uint8_t *)first, CELLS * sizeof *first, (const uint8_t *)segments,
-                                     256 * SEGMENTS * sizeof *segments, 0, 0, a << 24 | b << 16 | c << 8 | d);
-        if (number >> 16 == 0) printf("%s: hop %u\n", argv[i], number & 65535);
-        else printf("%s: %s\n", argv[i], number >> 16 == 8 ? "no route" : "refused");
+        uint32_t number = rk_tables_look_up(&t, a << 24 | b << 16 | c << 8 | d);
+        if (RK_CODE(number) == RK_OK) printf("%s: hop %u\n", argv[i], RK_HOP(number));
+        else printf("%s: %s\n", argv[i], RK_CODE(number) == RK_NO_ROUTE ? "no route" : "refused");
     }
-    free(first), free(segments), free(owners), free(rules);
+    free(t.first), free(t.long_table), free(t.owners), free(t.rules);
     if (fflush(stdout) != 0) return perror("site: standard output"), 1;
     return 0;
 }

@@ -1,10 +1,19 @@
 /*
- * Rakmolthi: a list of live IPv4 prefixes and two lookup tables of the DIR-24-8 kind, with every call proved.
+ * Rakmolthi: a list of live IPv4 prefixes and two lookup tables of the DIR-24-8 kind. Every call of the library is proved.
+ *
+ * Most programs put what they lend and the territory into an rk_tables, once, and make the rk_tables_ calls at the end of this file:
+ *
+ *     if (rk_tables_clear(&t) != RK_OK) ..                     the memory lent has another size
+ *     report = rk_tables_announce(&t, address, length, hop);   report.code, and how many cells changed
+ *     number = rk_tables_look_up(&t, address);
+ *     if (RK_CODE(number) == RK_OK) hop = RK_HOP(number);
+ *
+ * These are C and hand the fields on to rk_announce and so on, where it is said what a call answers, writes and refuses.
  *
  * Memory. The library has none of its own: no heap, no state, no locks. The caller lends it on every call:
  *
- *   first        2^(24 - base_length) cells of 32 bits, one for each /24 block of the territory
- *   long_table   256 * S cells of 32 bits, S from 0 to 32,768: segment k is cells 256k to 256k + 255
+ *   first        RK_FIRST_CELLS(base_length) cells of 32 bits, 2^(24 - base_length): one for each /24 block of the territory
+ *   long_table   RK_LONG_CELLS(S) cells of 32 bits, 256 * S, S from 0 to 32,768: segment k is cells 256k to 256k + 255
  *   owners       S words of 32 bits, one for each segment
  *   rules        R words of 64 bits, R from 0 to 65,536, one for each live prefix
  *   octets       RK_WORDS words of 64 bits, one for each hop: what was carried; word 0 takes what has no route
@@ -18,26 +27,26 @@
  * The territory is the prefix base / base_length: base_length 0 to 24, and no bit of base set after it. All lent memory belongs to one
  * territory from rk_clear on.
  *
- * Answers. 0 is success. Any other number is a refusal, and a refused call writes nothing and answers hop 0, cells 0, an all-zero update:
+ * Answers. 0, RK_OK, is success. Any other number is a refusal, and a refused call writes nothing and answers hop 0, cells 0, an all-zero
+ * update:
  *
- *    1  base_length above 24, base has bits after it, or a lent size is not as above           every call on lent words
- *    2  length above 32, address bits set after the length, or a hop outside 1 to 32,767       updates (the hop: announce, re-home);
- *                                                                                              cost line (the hop)
- *    3  address not in the territory; prefix shorter than the territory or not inside it       look up, book, updates
- *    4  damage: the lent words contradict themselves where the call looks                      look up, book, updates
- *    5  prefix not live                                                                        withdraw, re-home
- *    6  prefix not live and no rule word is free                                               announce
- *    7  a prefix longer than 24 needs a segment and none is free                               announce
- *    8  no route                                                                               look up
- *   20  fewer than 2 bytes, or the length field is right and there are fewer than 15           read
- *   21  the length field is not 13                                                             read
- *   22  the version is not 1                                                                   read
- *   23  the kind is not 1, 2 or 3                                                              read, write
- *   24  the serial is not the expected one                                                     read
- *   25  a withdraw with a hop                                                                  read, write
- *   26  fewer than 15 bytes of room                                                            write
- *   30  a word of octets would pass 2^53 (book), or has passed it (cost line, cost sheet)
- *   31  a word of cents has passed 2^53                                                        cost line, cost sheet
+ *    1  RK_WRONG_SIZES         base_length above 24, base has bits after it, or a lent size is not as above      every call on lent words
+ *    2  RK_WRONG_NUMBERS       length above 32, address bits set after the length, or a hop outside 1 to 32,767  updates, cost line
+ *    3  RK_OUTSIDE             address not in the territory; prefix shorter than the territory or not inside it  look up, book, updates
+ *    4  RK_DAMAGE              damage: the lent words contradict themselves where the call looks                 look up, book, updates
+ *    5  RK_NOT_LIVE            prefix not live                                                                   withdraw, re-home
+ *    6  RK_NO_RULE_WORD        prefix not live and no rule word is free                                          announce
+ *    7  RK_NO_SEGMENT          a prefix longer than 24 needs a segment and none is free                          announce
+ *    8  RK_NO_ROUTE            no route                                                                          look up
+ *   20  RK_CUT_RECORD          fewer than 2 bytes, or the length field is right and there are fewer than 15      read
+ *   21  RK_WRONG_LENGTH_FIELD  the length field is not 13                                                        read
+ *   22  RK_WRONG_VERSION       the version is not 1                                                              read
+ *   23  RK_WRONG_KIND          the kind is not 1, 2 or 3                                                         read, write
+ *   24  RK_WRONG_SERIAL        the serial is not the expected one                                                read
+ *   25  RK_WITHDRAW_WITH_HOP   a withdraw with a hop                                                             read, write
+ *   26  RK_NO_RECORD_ROOM      fewer than 15 bytes of room                                                       write
+ *   30  RK_TOO_MANY_OCTETS     a word of octets would pass 2^53 (book), or has passed it (cost line, cost sheet)
+ *   31  RK_TOO_MANY_CENTS      a word of cents has passed 2^53                                                   cost line, cost sheet
  *
  * Where several hold, the first in the order of the tests is answered: 1, 2, 3, 4, 5, 6, 7, 8, 30, 31; 20, 21, 22, 23, 24, 25, with the
  * 15 bytes of 20 tested after 21; 26, 23, 25.
@@ -57,6 +66,66 @@
 extern "C" {
 #endif
 
+enum rk_code {
+    RK_OK = 0,
+    RK_WRONG_SIZES = 1,
+    RK_WRONG_NUMBERS = 2,
+    RK_OUTSIDE = 3,
+    RK_DAMAGE = 4,
+    RK_NOT_LIVE = 5,
+    RK_NO_RULE_WORD = 6,
+    RK_NO_SEGMENT = 7,
+    RK_NO_ROUTE = 8,
+    RK_CUT_RECORD = 20,
+    RK_WRONG_LENGTH_FIELD = 21,
+    RK_WRONG_VERSION = 22,
+    RK_WRONG_KIND = 23,
+    RK_WRONG_SERIAL = 24,
+    RK_WITHDRAW_WITH_HOP = 25,
+    RK_NO_RECORD_ROOM = 26,
+    RK_TOO_MANY_OCTETS = 30,
+    RK_TOO_MANY_CENTS = 31
+};
+
+/* What a record asks for. */
+enum rk_kind {
+    RK_ANNOUNCE = 1,
+    RK_WITHDRAW = 2,
+    RK_RE_HOME = 3
+};
+
+/* Sizes. */
+#define RK_BLOCK_CELLS 256   /* the addresses of a block, and the cells of a segment */
+#define RK_MOST_TERRITORY 24 /* the longest base_length */
+#define RK_MOST_SEGMENTS 32768
+#define RK_MOST_RULES 65536
+#define RK_LAST_HOP 32767 /* the first is 1 */
+#define RK_RECORD_BYTES 15
+#define RK_WORDS 32768 /* of octets, and of cents: one for each hop, and word 0 */
+#define RK_HOPS 32767  /* of a cost sheet */
+
+/* How many cells a territory of this length, 0 to 24, has in the first table, and how many so many segments have in the long one. */
+#define RK_FIRST_CELLS(base_length) ((size_t)1 << RK_MOST_TERRITORY >> (base_length))
+#define RK_LONG_CELLS(segments) ((size_t)RK_BLOCK_CELLS * (segments))
+
+/* The parts of the number that rk_look_up answers. */
+#define RK_CODE(number) ((uint32_t)(number) >> 16)
+#define RK_HOP(number) ((uint32_t)(number) & 65535)
+
+/* What is lent for the tables, and the territory. The program fills it in, each field by its name; no call changes the fields. */
+typedef struct {
+    uint32_t *first;
+    size_t first_cells;
+    uint32_t *long_table;
+    size_t long_cells;
+    uint32_t *owners;
+    size_t owner_words;
+    uint64_t *rules;
+    size_t rule_words;
+    uint32_t base;
+    uint32_t base_length;
+} rk_tables;
+
 /*
  * What an update answers: 0 and how many cells of the two tables it changed, or a refusal and 0. Where nothing but rk_clear and these calls
  * wrote the lent memory, that number is the update's price, which the live prefixes before and after it give; on other memory it is still
@@ -69,7 +138,7 @@ typedef struct {
 
 /* An update, as a record carries it. */
 typedef struct {
-    uint8_t kind; /* 1 announce, 2 withdraw, 3 re-home */
+    uint8_t kind; /* RK_ANNOUNCE, RK_WITHDRAW or RK_RE_HOME */
     uint32_t serial;
     uint32_t address;
     uint8_t length;
@@ -81,10 +150,6 @@ typedef struct {
     uint32_t code;
     rk_update update;
 } rk_reading;
-
-/* The words of octets and of cents, and the hop numbers of a cost sheet. */
-#define RK_WORDS 32768
-#define RK_HOPS 32767
 
 /*
  * A line of the cost sheet. Code 0 and traffic 1: the rate holds, in cents for an octet. Code 0 and traffic 0: "no traffic", and rate 0 says
@@ -115,9 +180,9 @@ rk_report rk_re_home(uint32_t *first, size_t first_cells, uint32_t *long_table, 
                      uint32_t hop);
 
 /*
- * The hop of the longest live prefix that contains the address, as the one number code * 65,536 + hop. The tables are passed as bytes,
- * four to a cell, the lowest first, which is how rk_announce and the others leave them on a little-endian machine; 1 also where a length
- * is no multiple of 4. It reads one or two cells. Refusals 1, 3, 4, 8.
+ * The hop of the longest live prefix that contains the address, as the one number code * 65,536 + hop; RK_CODE and RK_HOP take it apart.
+ * The tables are passed as bytes, four to a cell, the lowest first, which is how rk_announce and the others leave them on a little-endian
+ * machine; 1 also where a length is no multiple of 4. It reads one or two cells. Refusals 1, 3, 4, 8.
  */
 uint32_t rk_look_up(const uint8_t *first, size_t first_bytes, const uint8_t *long_table, size_t long_bytes, uint32_t base,
                     uint32_t base_length, uint32_t address);
@@ -170,6 +235,65 @@ rk_line rk_cost_line(const uint64_t *octets, size_t octet_words, const uint64_t 
  */
 uint32_t rk_cost_sheet(const uint64_t *octets, size_t octet_words, const uint64_t *cents, size_t cent_words, uint32_t *hops,
                        size_t hop_count);
+
+/*
+ * The calls on an rk_tables, each as the call above of the same name without tables_. Those that take a const rk_tables only read what is
+ * lent for the tables.
+ */
+static inline uint32_t rk_tables_clear(rk_tables *t) {
+    return rk_clear(t->first, t->first_cells, t->long_table, t->long_cells, t->owners, t->owner_words, t->rules, t->rule_words, t->base,
+                    t->base_length);
+}
+
+static inline rk_report rk_tables_announce(rk_tables *t, uint32_t address, uint32_t length, uint32_t hop) {
+    return rk_announce(t->first, t->first_cells, t->long_table, t->long_cells, t->owners, t->owner_words, t->rules, t->rule_words, t->base,
+                       t->base_length, address, length, hop);
+}
+
+static inline rk_report rk_tables_withdraw(rk_tables *t, uint32_t address, uint32_t length) {
+    return rk_withdraw(t->first, t->first_cells, t->long_table, t->long_cells, t->owners, t->owner_words, t->rules, t->rule_words, t->base,
+                       t->base_length, address, length);
+}
+
+static inline rk_report rk_tables_re_home(rk_tables *t, uint32_t address, uint32_t length, uint32_t hop) {
+    return rk_re_home(t->first, t->first_cells, t->long_table, t->long_cells, t->owners, t->owner_words, t->rules, t->rule_words, t->base,
+                      t->base_length, address, length, hop);
+}
+
+/*
+ * What an accepted record asks for: one of the three calls above, by the update's kind. An update that no accepted record carries is
+ * refused as reading refuses its record, before anything else is looked at: with 23 for another kind, with 25 for a withdraw with a hop.
+ */
+static inline rk_report rk_tables_update(rk_tables *t, rk_update update) {
+    rk_report refused = {RK_WRONG_KIND, 0};
+    if (update.kind == RK_ANNOUNCE) return rk_tables_announce(t, update.address, update.length, update.hop);
+    if (update.kind == RK_WITHDRAW && update.hop == 0) return rk_tables_withdraw(t, update.address, update.length);
+    if (update.kind == RK_RE_HOME) return rk_tables_re_home(t, update.address, update.length, update.hop);
+    if (update.kind == RK_WITHDRAW) refused.code = RK_WITHDRAW_WITH_HOP;
+    return refused;
+}
+
+static inline uint32_t rk_tables_look_up(const rk_tables *t, uint32_t address) {
+    return rk_look_up((const uint8_t *)t->first, t->first_cells * sizeof *t->first, (const uint8_t *)t->long_table,
+                      t->long_cells * sizeof *t->long_table, t->base, t->base_length, address);
+}
+
+static inline uint32_t rk_tables_look_up_all(const rk_tables *t, const uint32_t *addresses, size_t address_count, uint32_t *answers,
+                                             size_t answer_count) {
+    return rk_look_up_all(t->first, t->first_cells, t->long_table, t->long_cells, t->base, t->base_length, addresses, address_count,
+                          answers, answer_count);
+}
+
+static inline uint32_t rk_tables_book(const rk_tables *t, uint64_t *octets, size_t octet_words, uint32_t address, uint64_t amount) {
+    return rk_book(t->first, t->first_cells, t->long_table, t->long_cells, octets, octet_words, t->base, t->base_length, address, amount);
+}
+
+static inline uint32_t rk_tables_book_all(const rk_tables *t, uint64_t *octets, size_t octet_words, const uint32_t *addresses,
+                                          size_t address_count, const uint64_t *amounts, size_t amount_count, uint32_t *codes,
+                                          size_t code_count) {
+    return rk_book_all(t->first, t->first_cells, t->long_table, t->long_cells, octets, octet_words, t->base, t->base_length, addresses,
+                       address_count, amounts, amount_count, codes, code_count);
+}
 
 #ifdef __cplusplus
 }

@@ -42,7 +42,8 @@ static const char help[] =
     "\n"
     "  nfdump -R DIRECTORY -q -N -o 'fmt:%da,%byt' ipv4 >flows.txt\n";
 
-enum { SEGMENTS = 32768, LONG_CELLS = 256 * SEGMENTS, RULES = 65536, BATCH = 65536, RECORD = 15 };
+/* The flows of one call. */
+enum { BATCH = 65536 };
 
 /* The refusals of rakmolthi.h are below this, so they are counted in arrays. */
 enum { CODES = 32 };
@@ -54,10 +55,9 @@ enum { CODES = 32 };
 enum { PROGRESS_BATCHES = 16 };
 
 typedef struct {
-    uint32_t base, length;
-    size_t cells;
-    uint32_t *first, *segments, *owners, *hops;
-    uint64_t *rules, *octets, *cents;
+    rk_tables tables;
+    uint64_t *octets, *cents;
+    uint32_t *hops;
     char **names;         /* by hop; null where the cents have no name for it */
     unsigned long *lines; /* by hop: its line of the cents, or 0 */
     sum carried, cost, refused[CODES];
@@ -68,52 +68,55 @@ typedef struct {
     size_t count, batches;
 } books;
 
-#define LENT b->first, b->cells, b->segments, LONG_CELLS, b->owners, SEGMENTS, b->rules, RULES, b->base, b->length
-
 static int misused(const char *option, const char *what) {
     return say("sheet: %s %s; rakmolthi sheet --help says more", option, what), MISUSED;
 }
 
 static int lend(books *b, const char *territory) {
-    b->cells = (size_t)1 << (24 - b->length);
-    b->first = calloc(b->cells, sizeof *b->first), b->segments = calloc(LONG_CELLS, sizeof *b->segments);
-    b->owners = calloc(SEGMENTS, sizeof *b->owners), b->rules = calloc(RULES, sizeof *b->rules);
+    rk_tables *t = &b->tables;
+    t->first_cells = RK_FIRST_CELLS(t->base_length), t->long_cells = RK_LONG_CELLS(RK_MOST_SEGMENTS);
+    t->owner_words = RK_MOST_SEGMENTS, t->rule_words = RK_MOST_RULES;
+    t->first = calloc(t->first_cells, sizeof *t->first), t->long_table = calloc(t->long_cells, sizeof *t->long_table);
+    t->owners = calloc(t->owner_words, sizeof *t->owners), t->rules = calloc(t->rule_words, sizeof *t->rules);
     b->octets = calloc(RK_WORDS, sizeof *b->octets), b->cents = calloc(RK_WORDS, sizeof *b->cents);
     b->hops = calloc(RK_HOPS, sizeof *b->hops), b->names = calloc(RK_WORDS, sizeof *b->names);
     b->lines = calloc(RK_WORDS, sizeof *b->lines);
-    if (!b->first || !b->segments || !b->owners || !b->rules || !b->octets || !b->cents || !b->hops || !b->names || !b->lines)
+    if (!t->first || !t->long_table || !t->owners || !t->rules || !b->octets || !b->cents || !b->hops || !b->names || !b->lines)
         return say("no memory");
-    if (rk_clear(LENT) != 0) return misused(territory, "has bits after its length");
-    if (rk_clear_octets(b->octets, RK_WORDS) != 0) return say("the memory lent has another size");
+    if (rk_tables_clear(t) != RK_OK) return misused(territory, "has bits after its length");
+    if (rk_clear_octets(b->octets, RK_WORDS) != RK_OK) return say("the memory lent has another size");
     return WHOLE;
 }
 
 static void give_back(books *b) {
     for (int hop = 0; b->names && hop < RK_WORDS; hop++) free(b->names[hop]);
-    free(b->first), free(b->segments), free(b->owners), free(b->rules), free(b->octets), free(b->cents), free(b->hops), free(b->names);
-    free(b->lines), free(b);
+    free(b->tables.first), free(b->tables.long_table), free(b->tables.owners), free(b->tables.rules);
+    free(b->octets), free(b->cents), free(b->hops), free(b->names), free(b->lines), free(b);
 }
 
 static const char *reading_words(uint32_t code) {
-    static const char *const words[] = {"it ends too early", "its length field is not 13", "its version is not 1",
-                                        "its kind is not 1, 2 or 3", "its serial is not the expected one", "it is a withdraw with a hop"};
-    return code >= 20 && code <= 25 ? words[code - 20] : "rakmolthi.h says why";
+    static const char *const words[CODES] = {
+        [RK_CUT_RECORD] = "it ends too early",
+        [RK_WRONG_LENGTH_FIELD] = "its length field is not 13",
+        [RK_WRONG_VERSION] = "its version is not 1",
+        [RK_WRONG_KIND] = "its kind is not 1, 2 or 3",
+        [RK_WRONG_SERIAL] = "its serial is not the expected one",
+        [RK_WITHDRAW_WITH_HOP] = "it is a withdraw with a hop",
+    };
+    return code < CODES && words[code] ? words[code] : "rakmolthi.h says why";
 }
 
 static int take_records(books *b, FILE *file, const char *as) {
     unsigned long counts[CODES] = {0}, place = 0;
     char list[CODES * 40] = "", *end = list;
-    uint8_t record[RECORD];
+    uint8_t record[RK_RECORD_BYTES];
     size_t got;
-    for (; (got = fread(record, 1, RECORD, file)) > 0 && !ferror(file); place++) {
+    for (; (got = fread(record, 1, sizeof record, file)) > 0 && !ferror(file); place++) {
         rk_reading reading = rk_read_record(record, got, (uint32_t)place);
-        rk_update u = reading.update;
-        rk_report report = {0, 0};
-        if (reading.code != 0)
+        rk_report report;
+        if (reading.code != RK_OK)
             return say("%s: record %lu, counted from 0, is refused with %u: %s", as, place, (unsigned)reading.code, reading_words(reading.code));
-        if (u.kind == 1) report = rk_announce(LENT, u.address, u.length, u.hop);
-        if (u.kind == 2) report = rk_withdraw(LENT, u.address, u.length);
-        if (u.kind == 3) report = rk_re_home(LENT, u.address, u.length, u.hop);
+        report = rk_tables_update(&b->tables, reading.update);
         if (report.code >= CODES) return say("%s: record %lu, counted from 0: the answer %u is unknown", as, place, (unsigned)report.code);
         counts[report.code]++;
     }
@@ -142,14 +145,13 @@ static int read_lines(books *b, const char *name, int (*take)(books *, char *)) 
 }
 
 static int book(books *b) {
-    uint32_t answer = rk_book_all(b->first, b->cells, b->segments, LONG_CELLS, b->octets, RK_WORDS, b->base, b->length, b->addresses,
-                                  b->count, b->amounts, b->count, b->codes, b->count);
-    if (answer != 0) return say("booking is refused with %u", (unsigned)answer);
+    uint32_t answer = rk_tables_book_all(&b->tables, b->octets, RK_WORDS, b->addresses, b->count, b->amounts, b->count, b->codes, b->count);
+    if (answer != RK_OK) return say("booking is refused with %u", (unsigned)answer);
     for (size_t i = 0; i < b->count; i++) {
         uint32_t code = b->codes[i];
         if (code >= CODES) return say("booking: the answer %u is unknown", (unsigned)code);
         sum_add(&b->carried, b->amounts[i]);
-        if (code == 0) continue;
+        if (code == RK_OK) continue;
         sum_add(&b->refused[code], b->amounts[i]);
         b->refusals[code]++;
     }
@@ -180,7 +182,7 @@ static int take_cents(books *b, char *line) {
     uint64_t hop, cents;
     int number = take_number(&line, &hop);
     if (number == 0) return say_line(&b->text, "there is no hop in front");
-    if (number < 0 || hop < 1 || hop > RK_HOPS) return say_line(&b->text, "the hop is not one of 1 to %d", RK_HOPS);
+    if (number < 0 || hop < 1 || hop > RK_LAST_HOP) return say_line(&b->text, "the hop is not one of 1 to %d", RK_LAST_HOP);
     number = take_gap(&line) ? take_number(&line, &cents) : 0;
     if (number == 0) return say_line(&b->text, "there is no whole number of cents after the hop");
     if (number < 0 || cents > CENTS_TOP) return say_line(&b->text, "the cents are above 2^53, which is 9007199254740992");
@@ -227,7 +229,7 @@ static size_t make_rows(const books *b, row *rows, int csv, int all) {
         rk_line line;
         if (!all && b->octets[hop] == 0 && b->cents[hop] == 0) continue;
         line = rk_cost_line(b->octets, RK_WORDS, b->cents, RK_WORDS, hop);
-        if (line.code != 0) return say("the line of hop %u is refused with %u", (unsigned)hop, (unsigned)line.code), 0;
+        if (line.code != RK_OK) return say("the line of hop %u is refused with %u", (unsigned)hop, (unsigned)line.code), 0;
         r->name = b->names[hop] ? b->names[hop] : "-";
         number_cell(r->hop, hop), number_cell(r->octets, b->octets[hop]), number_cell(r->cents, b->cents[hop]);
         if (line.traffic) snprintf(r->rate, sizeof r->rate, csv ? "%.17g" : "%.6g", line.rate);
@@ -271,7 +273,7 @@ static int print_sheet(books *b, int csv, int all) {
     uint32_t answer = rk_cost_sheet(b->octets, RK_WORDS, b->cents, RK_WORDS, b->hops, RK_HOPS);
     row *rows;
     size_t count;
-    if (answer != 0) return say("the sheet is refused with %u", (unsigned)answer);
+    if (answer != RK_OK) return say("the sheet is refused with %u", (unsigned)answer);
     rows = calloc(1 + RK_HOPS + CODES + 2, sizeof *rows);
     if (!rows) return say("no memory");
     count = make_rows(b, rows, csv, all);
@@ -304,11 +306,11 @@ int sheet(int argc, char **argv) {
         return misused("-", "can stand for one file alone, since there is one standard input");
     territory = values[TERRITORY];
     if (!take_prefix(&territory, &base, &length) || *territory) return misused(values[TERRITORY], "is no prefix such as 10.16.0.0/12");
-    if (length > 24) return misused(values[TERRITORY], "is longer than 24");
+    if (length > RK_MOST_TERRITORY) return misused(values[TERRITORY], "is longer than 24");
 
     b = calloc(1, sizeof *b);
     if (!b) return say("no memory");
-    b->base = base, b->length = length;
+    b->tables.base = base, b->tables.base_length = length;
     status = lend(b, values[TERRITORY]);
     if (status == WHOLE) status = read_updates(b, values[UPDATES]);
     if (status == WHOLE) status = read_flows(b, values[FLOWS]);
