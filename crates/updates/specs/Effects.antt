@@ -20,12 +20,19 @@ cleared m = record {
   rules = replicate (length (m .rules)) 0;
 }
 
--- the tables after a change; rs are the live routes after it. A route that is put in is painted, in a segment that is opened if need be; where a prefix
--- is taken out its cells are repainted, and its segment closes if it is not needed any more
-unfoldable pub retabled : Prefix → Change → List Route → Tables → Tables
-retabled t (puts r) rs tables =
+-- announce and re-home: the cells of the prefix are painted, in a segment that is opened if one is needed
+abbrev pub painted : Prefix → Route → Tables → Tables
+painted t r tables =
     let p = r .prefix in repainted t p (λ a. paintCell (p .length) (pack (r .hop) (p .length))) (openedFor t p tables)
-retabled t (takes p) rs tables = closedFor t p rs (repainted t p (unpaintCell (p .length) rs) tables)
+
+-- withdraw: the cells of the prefix are repainted, and its segment closes if none is needed any more; rs are the routes that are left
+abbrev pub unpainted : Prefix → Prefix → List Route → Tables → Tables
+unpainted t p rs tables = closedFor t p rs (repainted t p (unpaintCell (p .length) rs) tables)
+
+-- the tables after a change, with which rs are live
+unfoldable pub retabled : Prefix → Change → List Route → Tables → Tables
+retabled t (puts r) rs tables = painted t r tables
+retabled t (takes p) rs tables = unpainted t p rs tables
 
 -- the tables and the rule words after a change
 unfoldable pub effect : Prefix → Change → Lent → Lent

@@ -1,8 +1,10 @@
 // The calls that write: clear, announce, withdraw and re-home, for any numbers and any lent memory. Each tests first, in the paper's order,
 // and writes only when nothing refuses.
-ghost use Rattle.cells.specs.Memory.{memory};
+ghost use mathlib.Core.Path.{_≡_};
+ghost use Rattle.cells.specs.Memory.{lentIn, lentOut};
 ghost use Rattle.rules.specs.Words.{routeBy};
-ghost use Rattle.updates.specs.Calls.{announce, withdraw, reHome, clear, Meets};
+ghost use Rattle.refusals.specs.Codes.{announces, withdraws, re-homes};
+ghost use Rattle.updates.specs.Calls.{reported, step, clear};
 
 mod put;
 mod take;
@@ -26,7 +28,8 @@ pub fn clear(
     rules: &mut [u64],
     territory: Prefix,
 ) -> u32
-    ensures { λ r. ⌜ Meets (clear territory (memory (now (first .entry)) (now (long .entry)) (now (owners .entry)) (now (rules .entry)))) (record { code = r; cells = 0 }) (now (first .exit)) (now (long .exit)) (now (owners .exit)) (now (rules .exit)) ⌝ }
+    ensures { λ r. ⌜ reported (record { code = r; cells = 0 }) (lentOut first long owners rules)
+        ≡ clear territory (lentIn first long owners rules) ⌝ }
 {
     let code = codes::clear_checked(first, long, owners, rules, territory);
     if code != 0 {
@@ -49,16 +52,11 @@ pub fn announce(
     prefix: Prefix,
     hop: u32,
 ) -> Report
-    ensures { λ r. ⌜ Meets (announce territory (routeBy prefix hop) (memory (now (first .entry)) (now (long .entry)) (now (owners .entry)) (now (rules .entry)))) r (now (first .exit)) (now (long .exit)) (now (owners .exit)) (now (rules .exit)) ⌝ }
+    ensures { λ r. ⌜ reported r (lentOut first long owners rules)
+        ≡ step territory (announces (routeBy prefix hop)) (lentIn first long owners rules) ⌝ }
 {
     let checked = codes::announce_checked(first, long, owners, rules, territory, prefix, hop);
-    if checked.code != 0 {
-        return Report {
-            code: checked.code,
-            cells: 0,
-        };
-    }
-    put::put_route(first, long, owners, rules, territory, prefix, hop, checked)
+    put::put_checked(first, long, owners, rules, territory, prefix, hop, checked)
 }
 
 // Changes the hop of a live prefix. Refusals 1 to 5.
@@ -71,16 +69,11 @@ pub fn re_home(
     prefix: Prefix,
     hop: u32,
 ) -> Report
-    ensures { λ r. ⌜ Meets (reHome territory (routeBy prefix hop) (memory (now (first .entry)) (now (long .entry)) (now (owners .entry)) (now (rules .entry)))) r (now (first .exit)) (now (long .exit)) (now (owners .exit)) (now (rules .exit)) ⌝ }
+    ensures { λ r. ⌜ reported r (lentOut first long owners rules)
+        ≡ step territory (re-homes (routeBy prefix hop)) (lentIn first long owners rules) ⌝ }
 {
     let checked = codes::re_home_checked(first, long, owners, rules, territory, prefix, hop);
-    if checked.code != 0 {
-        return Report {
-            code: checked.code,
-            cells: 0,
-        };
-    }
-    put::put_route(first, long, owners, rules, territory, prefix, hop, checked)
+    put::put_checked(first, long, owners, rules, territory, prefix, hop, checked)
 }
 
 // Removes a live prefix. Refusals 1 to 5.
@@ -92,14 +85,9 @@ pub fn withdraw(
     territory: Prefix,
     prefix: Prefix,
 ) -> Report
-    ensures { λ r. ⌜ Meets (withdraw territory prefix (memory (now (first .entry)) (now (long .entry)) (now (owners .entry)) (now (rules .entry)))) r (now (first .exit)) (now (long .exit)) (now (owners .exit)) (now (rules .exit)) ⌝ }
+    ensures { λ r. ⌜ reported r (lentOut first long owners rules)
+        ≡ step territory (withdraws prefix) (lentIn first long owners rules) ⌝ }
 {
     let checked = codes::withdraw_checked(first, long, owners, rules, territory, prefix);
-    if checked.code != 0 {
-        return Report {
-            code: checked.code,
-            cells: 0,
-        };
-    }
-    take::take_prefix(first, long, owners, rules, territory, prefix, checked)
+    take::take_checked(first, long, owners, rules, territory, prefix, checked)
 }

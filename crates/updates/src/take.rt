@@ -1,40 +1,41 @@
-// Withdraw, once nothing refuses: the prefix is taken out of the rules first, so that the longest other match is the longest match, and
-// then its cells are repainted, or its segment closes.
+// Withdraw, once its number is known: where it is 0 the prefix is taken out of the rules first, so that the longest other match is the
+// longest match, and then its cells are repainted, or its segment closes.
 ghost use mathlib.Core.Path.{_≡_};
+ghost use mathlib.Core.Bool.{not, _&&_};
+ghost use Prim.Native.Nat.{_%_};
+ghost use lib.Dec.{ltb};
+ghost use Rattle.prefix.specs.Geometry.{width, blockSize, touched};
+ghost use Rattle.prefix.specs.Price.{isOpen};
+ghost use Rattle.prefix.specs.Routes.{takes};
+ghost use Rattle.cells.specs.Memory.{tables, tablesIn, tablesOut, lent, lentIn, lentOut};
 ghost use Rattle.rules.specs.Rules.{routes, Listed};
-ghost use Rattle.cells.specs.Memory.{memory};
-ghost use Rattle.prefix.specs.Geometry.{blockStart, blockOf};
-ghost use Rattle.tables.specs.inner.Repaint.{Repaintable};
-ghost use Rattle.updates.specs.Calls.{accepted, Meets};
-ghost use Rattle.updates.specs.Effects.{closes, withdrawn};
-ghost use Rattle.updates.specs.Steps.{Blocked, Unpainted, Takable};
+ghost use Rattle.tables.specs.Changes.{left, leaves};
+ghost use Rattle.tables.specs.inner.Ready.{Repaintable};
+ghost use Rattle.updates.specs.Calls.{reported, outcome};
+ghost use Rattle.updates.specs.Effects.{unpainted, effect};
+ghost use Rattle.updates.specs.inner.Steps.{Takable};
 use crate::Report;
 use prefix::Prefix;
+use prefix::geometry::Block;
+use prefix::geometry::Blocks;
+use prefix::geometry::block_start;
 use refusals::codes::Checked;
-use refusals::damage;
+use rules::blocks::is_open;
 use rules::list;
-use rules::list::Place;
 use tables::fill;
 use tables::unpaint;
 
-// The first address of the block that the prefix starts in.
-fn block_start(territory: Prefix, prefix: Prefix) -> u32
-    requires { ⌜ Blocked territory prefix ⌝ }
-    ensures { λ r. ⌜ r ≡ blockStart territory (blockOf territory (prefix .address)) ⌝ }
-{
-    prefix.address - prefix.address % 256
-}
-
-// Whether the prefix is longer than 24 and no rule that is left is longer than 24 in its block.
-fn closes_block(rules: &[u64], live: usize, territory: Prefix, prefix: Prefix) -> bool
-    requires { ⌜ Blocked territory prefix ⌝ }
+// Whether a prefix of this length closes the block that starts at the address: it is longer than 24, and no rule that is left is longer
+// than 24 in the block.
+fn closes_block(rules: &[u64], live: usize, start: u32, length: u32) -> bool
     requires { ⌜ Listed (now rules) live ⌝ }
-    ensures { λ r. ⌜ r ≡ closes territory prefix (routes (now (rules .entry))) ⌝ }
+    requires { ⌜ start % blockSize ≡ 0 ⌝ }
+    ensures { λ r. ⌜ r ≡ (ltb width length && not (isOpen (routes (now (rules .entry))) start)) ⌝ }
 {
-    if prefix.length <= 24 {
+    if length <= Block::WIDTH {
         return false;
     }
-    !damage::is_open(rules, live, block_start(territory, prefix))
+    !is_open(rules, live, start)
 }
 
 // Repaints the cells of the prefix, or closes its segment, and returns how many cells differ.
@@ -46,20 +47,25 @@ fn unpaint_or_close(
     live: usize,
     territory: Prefix,
     prefix: Prefix,
+    blocks: Blocks,
 ) -> u32
-    requires { ⌜ Repaintable territory prefix (now first) (now long) (now owners) ⌝ }
+    requires { ⌜ Repaintable territory prefix (tables first long owners) ⌝ }
     requires { ⌜ Listed (now rules) live ⌝ }
-    ensures { λ r. ⌜ Unpainted territory prefix (routes (now (rules .entry))) (memory (now (first .entry)) (now (long .entry)) (now (owners .entry)) (now (rules .entry))) (now (first .exit)) (now (long .exit)) (now (owners .exit)) r ⌝ }
+    requires { ⌜ blocks ≡ touched territory prefix ⌝ }
+    ensures { λ r. ⌜ left r (tablesOut first long owners)
+        ≡ leaves (unpainted territory prefix (routes (now (rules .entry)))) (tablesIn first long owners) ⌝ }
 {
-    if closes_block(rules, live, territory, prefix) {
-        let run = runs::longest(rules, live, block_start(territory, prefix));
-        return fill::close(first, long, owners, territory, prefix, run.cell);
+    let block = blocks.from;
+    let start = block_start(territory, block);
+    if closes_block(rules, live, start, prefix.length) {
+        let run = runs::longest(rules, live, start);
+        return fill::close(first, long, owners, territory, prefix, block, run.cell);
     }
-    unpaint::unpaint(first, long, owners, rules, live, territory, prefix)
+    unpaint::unpaint(first, long, owners, rules, live, territory, prefix, blocks)
 }
 
-// What was checked says where the prefix stands among the rules.
-pub fn take_prefix(
+// A refusal as it was checked; else what was checked says where the prefix stands among the rules.
+pub fn take_checked(
     first: &mut [u32],
     long: &mut [u32],
     owners: &mut [u32],
@@ -68,13 +74,19 @@ pub fn take_prefix(
     prefix: Prefix,
     checked: Checked,
 ) -> Report
-    requires { ⌜ Takable territory prefix (memory (now first) (now long) (now owners) (now rules)) (checked .live) (checked .at) (checked .found) ⌝ }
-    ensures { λ r. ⌜ Meets (accepted (memory (now (first .entry)) (now (long .entry)) (now (owners .entry)) (now (rules .entry))) (withdrawn territory prefix (memory (now (first .entry)) (now (long .entry)) (now (owners .entry)) (now (rules .entry))))) r (now (first .exit)) (now (long .exit)) (now (owners .exit)) (now (rules .exit)) ⌝ }
+    requires { ⌜ (checked .code ≡ 0 → Takable territory prefix checked (lent first long owners rules)) ⌝ }
+    ensures { λ r. ⌜ reported r (lentOut first long owners rules)
+        ≡ outcome (checked .code) (lentIn first long owners rules)
+        (effect territory (takes prefix) (lentIn first long owners rules)) ⌝ }
 {
-    let place = Place {
-        at: checked.at,
-        live: checked.found,
-    };
+    if checked.code != 0 {
+        return Report {
+            code: checked.code,
+            cells: 0,
+        };
+    }
+    let blocks = checked.blocks;
+    let place = checked.place;
     list::take_out(rules, checked.live, place, prefix);
     let cells = unpaint_or_close(
         first,
@@ -84,6 +96,7 @@ pub fn take_prefix(
         checked.live - 1,
         territory,
         prefix,
+        blocks,
     );
     Report { code: 0, cells }
 }

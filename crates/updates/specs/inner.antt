@@ -1,0 +1,2 @@
+-- What the steps of an accepted update require.
+pub mod Steps
