@@ -7,3 +7,6 @@ pub mod Blocks
 pub mod Repaints
 pub mod Filling
 pub mod Unpainted
+pub mod Opening
+pub mod Closing
+pub mod Addresses
