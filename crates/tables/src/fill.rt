@@ -67,7 +67,7 @@ pub fn open_and_paint(
     requires { ⌜ block ≡ blockOf territory (prefix .address) ⌝ }
     ensures { λ r. ⌜ left r (tablesOut first long owners)
         ≡ leaves (λ x. repainted territory prefix (λ a. paintCell (prefix .length) new) (openedAt block segment x))
-          (tablesIn first long owners) ⌝ }
+        (tablesIn first long owners) ⌝ }
 {
     let cell = first[block];
     let painted = paint::paint_cell(cell, new, prefix.length);

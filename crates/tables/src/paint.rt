@@ -11,7 +11,8 @@ ghost use Rattle.tables.specs.inner.Ranges.{Within, RunChanged, BlocksRe
 use crate::place;
 use cells::cell::Cell;
 use prefix::Prefix;
-use prefix::geometry::{Block, Blocks};
+use prefix::geometry::Block;
+use prefix::geometry::Blocks;
 
 // What becomes of one cell under a new cell of a prefix of this length.
 pub fn paint_cell(old: u32, new: u32, length: u32) -> u32

@@ -14,7 +14,9 @@ use crate::paint;
 use crate::place;
 use cells::cell::Cell;
 use prefix::Prefix;
-use prefix::geometry::{Block, Blocks, block_start};
+use prefix::geometry::Block;
+use prefix::geometry::Blocks;
+use prefix::geometry::block_start;
 use runs::Run;
 
 // What becomes of a cell, and the run that then holds.
@@ -176,7 +178,7 @@ pub fn unpaint(
     requires { ⌜ Listed (now rules) live ⌝ }
     ensures { λ r. ⌜ left r (tablesOut first long owners)
         ≡ leaves (repainted territory prefix (unpaintCell (prefix .length) (routes (now (rules .entry)))))
-          (tablesIn first long owners) ⌝ }
+        (tablesIn first long owners) ⌝ }
 {
     let length = prefix.length;
     let block = blocks.from;

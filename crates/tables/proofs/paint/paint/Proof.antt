@@ -1,60 +1,91 @@
+-- `paint::paint` meets its contract. A prefix of length up to 24 is a run of blocks; a longer one is a run of cells in its block's segment.
+-- Assumes nothing.
+use mathlib.Core.Path.{_≡_, ap}
+use Prim.Native.Nat.{_+_}
+use native.Mathlib.Omega.{arith}
 use borrow.Author.Needs.{needs}
+use Rattle.prefix.specs.declared.geometry.Blocks.{Blocks}
+use Rattle.prefix.specs.Geometry.{blockOf, blocks}
+use Rattle.cells.specs.Memory.{tables}
+use Rattle.cells.proofs.Lending.{few-firsts}
+use Rattle.tables.specs.inner.Ready.{Closable}
+use Rattle.tables.specs.inner.Ranges.{BlocksReady}
+use Rattle.tables.proofs.Repaints.{block-lent, blocks-ready, blocks-repainted, closable, points, owns, run-within, run-repainted}
 use Rattle.tables.proofs.paint.paint.Statement.{statement}
 use Rattle.tables.proofs.paint.paint.Tie as tie
-use Rattle.tables.proofs.paint.paint.Reads as reads
-use Rattle.tables.proofs.paint.paint.Lts as lts
-use Rattle.cells.proofs.cell.Cell.segment.Reads as segment-reads
-use Rattle.tables.proofs.paint.paint_blocks.Reads as paint-blocks-reads
-use Rattle.tables.proofs.paint.paint_run.Reads as paint-run-reads
-use Rattle.tables.proofs.place.run_of.Reads as run-of-reads
 
--- src/paint.rt:119:18
+from : (s : tie.Start) → s .args .blocks .from ≡ blockOf (s .args .territory) (s .args .prefix .address)
+from s = ap (λ (x : Blocks). x .from) (s .pre .1)
+
+count : (s : tie.Start) → s .args .blocks .count ≡ blocks (s .args .prefix)
+count s = ap (λ (x : Blocks). x .count) (s .pre .1)
+
+-- ---- a prefix of length up to 24
+
+abbrev entry : tie.Then1 → tie.Start
+entry c = c .before .before .before .before
+
+ready : (c : tie.Then1) → let a = entry c .args in
+    BlocksReady (a .territory) (a .blocks .from) (a .blocks .from + a .blocks .count) (tables (a .first) (a .long) (a .owners))
+ready c = let s = entry c in blocks-ready (s .pre .0 .ready) (from s) (c .if1 .taken) (count s)
+
 add-to : tie.Need-add-to
-add-to c = ?
+add-to c = omega (arith, ready (c .before) .within, few-firsts (ready (c .before) .sized))
 
--- src/paint.rt:120:9
 paint-blocks-requires : tie.Need-paint-blocks-requires
-paint-blocks-requires c κs = ?
+paint-blocks-requires c κs = ready (c .before .before .before)
 
--- src/paint.rt:120:9
 same-length : tie.Need-same-length
 same-length c = search needs
 
--- src/paint.rt:120:9
 same-length-2 : tie.Need-same-length-2
 same-length-2 c = search needs
 
--- src/paint.rt:120:9
 returns : tie.Need-returns
-returns c = ?
+returns c =
+    let at-paint = c .before .before .before .before in
+    let k = at-paint .before .before .before .before in
+    let s = entry k in
+    blocks-repainted (s .pre .0 .ready) (from s) (k .if1 .taken) (count s) _ (at-paint .paint-blocks .ensures)
 
--- src/paint.rt:122:45
+-- ---- a longer prefix
+
+abbrev start : tie.Else1 → tie.Start
+start c = c .before .before .before .before
+
+open-block : (c : tie.Else1) → let a = start c .args in Closable (a .territory) (a .prefix) (tables (a .first) (a .long) (a .owners))
+open-block c = closable (start c .pre .0) (c .if1 .left)
+
 mul-segment : tie.Need-mul-segment
-mul-segment c = ?
+mul-segment c = let s = start c in omega (arith, block-lent (s .pre .0 .ready) (from s), few-firsts (s .pre .0 .ready .sized))
 
--- src/paint.rt:122:45
 slice-read-segment : tie.Need-slice-read-segment
-slice-read-segment c = ?
+slice-read-segment c = let s = start (c .before) in omega (arith, block-lent (s .pre .0 .ready) (from s))
 
--- src/paint.rt:122:31
 segment-requires : tie.Need-segment-requires
-segment-requires c κs = ?
+segment-requires c κs = omega (arith, points (open-block (c .before)) (from (start (c .before))))
 
--- src/paint.rt:122:9
 run-of-requires : tie.Need-run-of-requires
-run-of-requires c κs = ?
+run-of-requires c κs =
+    let k = c .before .before in
+    let lent = owns (open-block k) (from (start k)) .lent in
+    (omega (arith, c .segment .ensures, open-block k .ready .sized .few), (omega (arith, k .if1 .left), open-block k .ready .formed .short))
 
--- src/paint.rt:123:5
 paint-run-requires : tie.Need-paint-run-requires
-paint-run-requires c κs = ?
+paint-run-requires c κs =
+    let at-segment = c .before .before in
+    let k = at-segment .before .before in
+    run-within (open-block k) (from (start k)) (at-segment .segment .ensures) (c .before .run-of .ensures)
 
--- src/paint.rt:102:1
 same-length-3 : tie.Need-same-length-3
 same-length-3 c = search needs
 
--- src/paint.rt:102:1
 returns-2 : tie.Need-returns-2
-returns-2 c = ?
+returns-2 c =
+    let at-run = c .before .before in
+    let at-segment = at-run .before .before .before in
+    let k = at-segment .before .before in
+    run-repainted (open-block k) (from (start k)) (at-segment .segment .ensures) (at-run .before .before .run-of .ensures) _ (at-run .paint-run .ensures)
 
 pub paint-spec : {M : Type 1} → statement M
 paint-spec =

@@ -1,65 +1,113 @@
+-- `unpaint::unpaint` meets its contract. A prefix of length up to 24 is a run of blocks; a longer one is a run of cells in its block's
+-- segment. The run kept at first is that of the prefix's own address. Assumes nothing.
+use mathlib.Core.Path.{_≡_, ap}
+use Prim.Native.Nat.{_+_, _-_, _^_, _≤_}
+use native.Mathlib.Omega.{arith}
+use denote.Ref.{now}
 use borrow.Author.Needs.{needs}
+use Rattle.prefix.specs.declared.geometry.Blocks.{Blocks}
+use Rattle.prefix.specs.Prefixes.{span}
+use Rattle.prefix.specs.Geometry.{blockOf, blocks}
+use Rattle.prefix.proofs.Spans.{starts}
+use Rattle.cells.specs.Memory.{tables}
+use Rattle.cells.proofs.Lending.{few-firsts}
+use Rattle.rules.specs.Rules.{routes}
+use Rattle.tables.specs.Cellwise.{unpaintCell}
+use Rattle.tables.specs.inner.Ready.{Closable}
+use Rattle.tables.specs.inner.Ranges.{BlocksReady}
+use Rattle.tables.proofs.Repaints.{block-lent, blocks-ready, blocks-repainted, closable, points, owns, run-within, run-repainted}
+use Rattle.tables.proofs.Addresses.{own-run, ends}
+use Rattle.tables.proofs.Unpainted.{kept-later, kept-run}
 use Rattle.tables.proofs.unpaint.unpaint.Statement.{statement}
 use Rattle.tables.proofs.unpaint.unpaint.Tie as tie
-use Rattle.tables.proofs.unpaint.unpaint.Reads as reads
-use Rattle.tables.proofs.unpaint.unpaint.Lts as lts
-use Rattle.cells.proofs.cell.Cell.segment.Reads as segment-reads
-use Rattle.runs.proofs.longest.Reads as longest-reads
-use Rattle.tables.proofs.place.run_of.Reads as run-of-reads
-use Rattle.tables.proofs.unpaint.unpaint_blocks.Reads as unpaint-blocks-reads
-use Rattle.tables.proofs.unpaint.unpaint_run.Reads as unpaint-run-reads
 
--- src/unpaint.rt:184:9
+abbrev entry : tie.After-longest → tie.Start
+entry c = c .before .before .before .before .before
+
+from : (s : tie.Start) → s .args .blocks .from ≡ blockOf (s .args .territory) (s .args .prefix .address)
+from s = ap (λ (x : Blocks). x .from) (s .pre .1 .0)
+
+count : (s : tie.Start) → s .args .blocks .count ≡ blocks (s .args .prefix)
+count s = ap (λ (x : Blocks). x .count) (s .pre .1 .0)
+
 longest-requires : tie.Need-longest-requires
 longest-requires c κs = search needs
 
--- src/unpaint.rt:186:18
+-- ---- a prefix of length up to 24
+
+ready : (c : tie.Then1) → let a = entry (c .before) .args in
+    BlocksReady (a .territory) (a .blocks .from) (a .blocks .from + a .blocks .count) (tables (a .first) (a .long) (a .owners))
+ready c = let s = entry (c .before) in blocks-ready (s .pre .0 .ready) (from s) (c .if1 .taken) (count s)
+
 add-to : tie.Need-add-to
-add-to c = ?
+add-to c = omega (arith, ready (c .before) .within, few-firsts (ready (c .before) .sized))
 
--- src/unpaint.rt:187:13
 unpaint-blocks-requires : tie.Need-unpaint-blocks-requires
-unpaint-blocks-requires c κs = ?
+unpaint-blocks-requires c κs =
+    let k = c .before .before .before in
+    let s = entry (k .before) in
+    let pre = s .pre .0 .ready in
+    let start = starts (pre .sized .territory) (pre .formed) (pre .inside) (k .if1 .taken) in
+    (ready k, record { listed = s .pre .1 .1; kept = kept-later (omega (arith, from s)) (kept-run (k .before .longest .ensures)) })
 
--- src/unpaint.rt:199:9
 same-length : tie.Need-same-length
 same-length c = search needs
 
--- src/unpaint.rt:199:9
 same-length-2 : tie.Need-same-length-2
 same-length-2 c = search needs
 
--- src/unpaint.rt:199:9
 returns : tie.Need-returns
-returns c = ?
+returns c =
+    let at-unpaint = c .before .before .before .before in
+    let k = at-unpaint .before .before .before .before in
+    let s = entry (k .before) in
+    blocks-repainted (s .pre .0 .ready) (from s) (k .if1 .taken) (count s) _ (at-unpaint .unpaint-blocks .ensures .blocks)
 
--- src/unpaint.rt:201:45
+-- ---- a longer prefix
+
+open-block : (c : tie.Else1) → let a = entry (c .before) .args in Closable (a .territory) (a .prefix) (tables (a .first) (a .long) (a .owners))
+open-block c = closable (entry (c .before) .pre .0) (c .if1 .left)
+
+end : (s : tie.Start) → s .args .prefix .address + span (s .args .prefix .length) ≤ 2 ^ 32
+end s = ends (s .pre .0 .ready .formed) (omega arith)
+
 mul-segment : tie.Need-mul-segment
-mul-segment c = ?
+mul-segment c = let s = entry (c .before) in omega (arith, block-lent (s .pre .0 .ready) (from s), few-firsts (s .pre .0 .ready .sized))
 
--- src/unpaint.rt:201:45
 slice-read-segment : tie.Need-slice-read-segment
-slice-read-segment c = ?
+slice-read-segment c = let s = entry (c .before .before) in omega (arith, block-lent (s .pre .0 .ready) (from s))
 
--- src/unpaint.rt:201:31
 segment-requires : tie.Need-segment-requires
-segment-requires c κs = ?
+segment-requires c κs = omega (arith, points (open-block (c .before)) (from (entry (c .before .before))))
 
--- src/unpaint.rt:201:9
 run-of-requires : tie.Need-run-of-requires
-run-of-requires c κs = ?
+run-of-requires c κs =
+    let k = c .before .before in
+    let lent = owns (open-block k) (from (entry (k .before))) .lent in
+    (omega (arith, c .segment .ensures, open-block k .ready .sized .few), (omega (arith, k .if1 .left), open-block k .ready .formed .short))
 
--- src/unpaint.rt:202:9
 unpaint-run-requires : tie.Need-unpaint-run-requires
-unpaint-run-requires c κs = ?
+unpaint-run-requires c κs =
+    let at-segment = c .before .before in
+    let k = at-segment .before .before in
+    let s = entry (k .before) in (
+      run-within (open-block k) (from s) (at-segment .segment .ensures) (c .before .run-of .ensures),
+      (omega (arith, c .before .run-of .ensures .high, end s), record { listed = s .pre .1 .1; kept = kept-run (k .before .longest .ensures) }),
+    )
 
--- src/unpaint.rt:164:1
 same-length-3 : tie.Need-same-length-3
 same-length-3 c = search needs
 
--- src/unpaint.rt:164:1
 returns-2 : tie.Need-returns-2
-returns-2 c = ?
+returns-2 c =
+    let at-run = c .before .before in
+    let at-segment = at-run .before .before .before in
+    let k = at-segment .before .before in
+    let s = entry (k .before) in
+    let run = at-run .before .before .run-of .ensures in
+    let f = unpaintCell (s .args .prefix .length) (routes (now (s .args .rules))) in
+    run-repainted (open-block k) (from s) (at-segment .segment .ensures) run f
+    (own-run (open-block k) (from s) (at-segment .segment .ensures) run f (at-run .unpaint-run .ensures .run))
 
 pub unpaint-spec : {M : Type 1} → statement M
 unpaint-spec =
