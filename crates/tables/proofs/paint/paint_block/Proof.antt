@@ -1,20 +1,30 @@
 -- `paint::paint_block` meets its contract. Where the block's first cell is a pointer, its segment is painted and nothing else is; where it is
 -- not, that cell is. Assumes nothing.
+use mathlib.Core.Path.{refl, sym, _∙_}
 use Prim.Native.Nat.{_+_, _≤_}
 use native.Mathlib.Omega.{arith}
 use lib.ListN.{length}
 use denote.Ref.{now}
+use borrow.Author.Tests.{leb-true, leb-false}
 use borrow.Author.Needs.{needs}
-use Rattle.tables.proofs.Blocks.{block-direct, block-points, points-to, owns, segment-inside}
+use Rattle.prefix.specs.Geometry.{blockSize}
+use Rattle.cells.specs.Memory.{tables}
+use Rattle.tables.specs.inner.Ready.{Points}
+use Rattle.tables.proofs.Blocks.{block-direct, block-points, owns-one, whole-lent}
 use Rattle.tables.proofs.paint.paint_block.Statement.{statement}
 use Rattle.tables.proofs.paint.paint_block.Tie as tie
 
 -- the function's entry, from where the cell is a pointer
 abbrev entry : tie.Then1 → tie.Start
-entry c = c .before .before .before .before .before
+entry c = c .before .before .before .before .before .before
 
-inside : (c : tie.After-segment-start) → c .segment-start .result + 256 ≤ length (now (entry (c .before) .args .long))
-inside c = segment-inside (entry (c .before) .pre) (c .before .if1 .taken) (c .segment-start .ensures)
+pointer : (c : tie.Then1) → let a = entry c .args in Points (tables (a .first) (a .long) (a .owners)) (a .block)
+pointer c = leb-true _ _ (sym (c .before .is-pointer .ensures) ∙ c .if1 .taken)
+
+inside : (c : tie.After-segment-start) → c .segment-start .result + blockSize ≤ length (now (entry (c .before .before) .args .long))
+inside c =
+    let k = c .before .before in
+    omega (arith, whole-lent (entry k .pre) (pointer k) refl, c .segment-start .ensures, c .before .segment .ensures)
 
 mul-cell : tie.Need-mul-cell
 mul-cell c = search needs
@@ -22,8 +32,16 @@ mul-cell c = search needs
 slice-read-cell : tie.Need-slice-read-cell
 slice-read-cell c = search needs
 
+is-pointer-requires : tie.Need-is-pointer-requires
+is-pointer-requires c κs = search needs
+
+segment-requires : tie.Need-segment-requires
+segment-requires c κs = pointer c
+
 segment-start-requires : tie.Need-segment-start-requires
-segment-start-requires c κs = search needs
+segment-start-requires c κs =
+    let k = c .before in
+    omega (arith, c .segment .ensures, owns-one (entry k .pre) (pointer k) .lent, entry k .pre .sized .few)
 
 add-paint-run : tie.Need-add-paint-run
 add-paint-run c = omega (arith, inside (c .before))
@@ -38,9 +56,9 @@ returns : tie.Need-returns
 returns c =
     let at-run = c .before .before in
     let at-start = at-run .before .before in
-    let ready = entry (at-start .before) .pre in
-    let pointer = at-start .before .if1 .taken in
-    block-points _ _ (points-to ready pointer) (owns ready pointer) (at-start .segment-start .ensures) (omega arith) (at-run .paint-run .ensures)
+    let k = at-start .before .before in
+    block-points _ _ (owns-one (entry k .pre) (pointer k)) (omega (arith, at-start .segment-start .ensures, at-start .before .segment .ensures)) (omega arith)
+    (at-run .paint-run .ensures)
 
 paint-cell-requires : tie.Need-paint-cell-requires
 paint-cell-requires c κs = search needs
@@ -58,7 +76,10 @@ same-length-2 : tie.Need-same-length-2
 same-length-2 c = search needs
 
 returns-2 : tie.Need-returns-2
-returns-2 c = block-direct _ _ (omega arith) (c .before .before .if1 .left) (c .before .paint-cell .ensures) (c .differ .ensures)
+returns-2 c =
+    let at-else = c .before .before in
+    block-direct _ _ (omega arith) (leb-false _ _ (sym (at-else .before .is-pointer .ensures) ∙ at-else .if1 .left)) (c .before .paint-cell .ensures)
+    (c .differ .ensures)
 
 pub paint-block-spec : {M : Type 1} → statement M
 paint-block-spec =
@@ -66,6 +87,8 @@ paint-block-spec =
     (tie.spec
     mul-cell
     slice-read-cell
+    is-pointer-requires
+    segment-requires
     segment-start-requires
     add-paint-run
     paint-run-requires

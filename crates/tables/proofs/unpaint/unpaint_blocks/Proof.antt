@@ -5,11 +5,12 @@ use native.Mathlib.Nat.{le-antisymm}
 use native.Mathlib.Omega.{arith}
 use denote.Ref.{now}
 use borrow.Author.Needs.{needs}
-use Rattle.prefix.specs.Geometry.{blockStart}
+use Rattle.cells.specs.Memory.{tables}
 use Rattle.rules.specs.Rules.{routes}
-use Rattle.tables.specs.Cellwise.{unpaintCell, cellAddress}
+use Rattle.tables.specs.Cellwise.{unpaintCell}
 use Rattle.tables.specs.inner.Ranges.{BlocksChanged}
 use Rattle.tables.specs.inner.Unpaint.{BlocksUnpainted}
+use Rattle.tables.proofs.Changes.{tablesOf}
 use Rattle.tables.proofs.Blocks.{blocks-none, few-blocks, blocks-then, ready-then, same-firsts, same-longs}
 use Rattle.tables.proofs.unpaint.unpaint_blocks.Statement.{statement}
 use Rattle.tables.proofs.unpaint.unpaint_blocks.Tie as tie
@@ -17,7 +18,7 @@ use Rattle.tables.proofs.unpaint.unpaint_blocks.Tie as tie
 abbrev Inv-loop : tie.InvT-loop
 Inv-loop first₀ long₀ owners rules live territory from to length changed₀ kept₀ block₀ first long changed kept block =
     (from ≤ block) × (block ≤ to)
-    × BlocksUnpainted territory length (routes rules) first₀ long₀ owners from block first long changed (kept .cell) (kept .end)
+    × BlocksUnpainted territory length (routes rules) from block (tablesOf first₀ long₀ owners) first long changed (kept .cell) (kept .end)
 
 abbrev μ-loop : tie.MeasureT-loop
 μ-loop first₀ long₀ owners rules live territory from to length changed₀ kept₀ block₀ first long changed kept block = to - block
@@ -35,27 +36,25 @@ entry c = c .before .before .before .before .before
 loop-holds : tie.Need-loop-holds Inv-loop μ-loop
 loop-holds c =
     let s = c .before .before .before .before in
-    (omega arith, omega arith, record { blocks = blocks-none _ _ _ _ _ _; kept = s .pre .1 .1 .kept })
+    (omega arith, omega arith, record { blocks = blocks-none _ _ _ _; kept = s .pre .1 .kept })
 
 unpaint-block-requires : tie.Need-unpaint-block-requires Inv-loop μ-loop
 unpaint-block-requires c κs =
     let at-loop = c .before .before .before in
     let s = entry at-loop in
     let done = at-loop .loop .inv .2 in (
-      ready-then (done .blocks) (at-loop .loop .inv .0) (omega arith) (s .pre .0 .1),
-      (omega (arith, s .pre .1 .0), record { listed = s .pre .1 .1 .listed; kept = done .kept }),
+      ready-then (done .blocks) (at-loop .loop .inv .0) (omega arith) (omega arith) (s .pre .0),
+      record { listed = s .pre .1 .listed; kept = done .kept },
     )
 
 -- the blocks up to the one that this turn repainted
-joined : (c : tie.After-struct-known Inv-loop μ-loop) → let a = entry (head c) .args in let f = unpaintCell (a .length) (routes (now (a .rules))) in
-    BlocksChanged (λ k. f (blockStart (a .territory) k)) (λ i. f (cellAddress (a .territory) (now (a .owners)) i))
-    (now (a .first)) (now (a .long)) (now (a .owners))
-    (a .from) (head c .loop .block + 1) (turned c .unpaint-block .last .0) (turned c .unpaint-block .last .1 .0)
-    (head c .loop .changed + turned c .unpaint-block .result .changed)
+joined : (c : tie.After-struct-known Inv-loop μ-loop) → let a = entry (head c) .args in
+    BlocksChanged (a .territory) (unpaintCell (a .length) (routes (now (a .rules)))) (a .from) (head c .loop .block + 1)
+    (tables (a .first) (a .long) (a .owners)) (turned c .unpaint-block .last .0) (turned c .unpaint-block .last .1 .0) (head c .loop .changed + turned c .unpaint-block .result .changed)
 joined c = blocks-then (head c .loop .inv .2 .blocks) (head c .loop .inv .0) (omega arith) (turned c .unpaint-block .ensures .blocks)
 
 add-changed : tie.Need-add-changed Inv-loop μ-loop
-add-changed c = record { fits = few-blocks (joined c) (entry (head c) .pre .0 .1) }
+add-changed c = record { fits = few-blocks (joined c) (entry (head c) .pre .0) }
 
 add-block : tie.Need-add-block Inv-loop μ-loop
 add-block c = search needs
