@@ -22,6 +22,12 @@ pub record Lent : Type 0 where
   pub tables : Tables
   pub rules : List ℕ
 
+abbrev pub tablesOf : (first long owners : List ℕ) → Tables
+tablesOf first long owners = record { first = first; long = long; owners = owners }
+
+abbrev pub lentOf : (first long owners rules : List ℕ) → Lent
+lentOf first long owners rules = record { tables = tablesOf first long owners; rules = rules }
+
 -- ---- sizes, in cells and words
 
 -- there are at most so many segments, and so many rule words
@@ -78,10 +84,10 @@ needsSegment t p tables = ltb width (p .length) && not (isPointer (getD (tables 
 -- ---- as a contract names it, by the parameters that lend it: in a `requires`, and in an `ensures` at entry and at exit
 
 abbrev pub tables : (first long owners : RefT (List ℕ)) → Tables
-tables first long owners = record { first = now first; long = now long; owners = now owners }
+tables first long owners = tablesOf (now first) (now long) (now owners)
 
 abbrev pub lent : (first long owners rules : RefT (List ℕ)) → Lent
-lent first long owners rules = record { tables = tables first long owners; rules = now rules }
+lent first long owners rules = lentOf (now first) (now long) (now owners) (now rules)
 
 -- a parameter at its two moments
 abbrev pub Slice : Type 0

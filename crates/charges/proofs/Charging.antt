@@ -65,7 +65,7 @@ charged-to rs a = go (best-is rs a)
 -- no record is accepted for an address outside the territory
 inside : (first long : List ℕ) (t : Prefix) (a : ℕ) → refusalOf (lookUp first long t a .code) ≡ 0 → Contains t a
 unfolding lookUp refusalOf
-inside first long t a = go (saysOf long (a % 256) (getD first (blockOf t a) 0)) (lentToRead (length first) (length long) t) (contains? t a)
+inside first long t a = go (saysOf long (a % blockSize) (getD first (blockOf t a) 0)) (lentToRead (length first) (length long) t) (contains? t a)
   where
     go : (x : Answer) (s : Bool) {u : Bool} → Decides (Contains t a) u
         → cond (eqb (cond s (cond u x (refused 3)) (refused 1) .code) 8) 0 (cond s (cond u x (refused 3)) (refused 1) .code) ≡ 0 → Contains t a
@@ -75,16 +75,16 @@ inside first long t a = go (saysOf long (a % 256) (getD first (blockOf t a) 0)) 
 
 module _ (t : Prefix) (m : Lent) (lent : IsLent m t) (h : History) (a : ℕ) where
   abbrev answer : Answer
-  answer = lookUp (memory t m h .first) (memory t m h .long) t a
+  answer = lookUp (memory t m h .tables .first) (memory t m h .tables .long) t a
 
   -- The sentence that finance relies on: with the tables that a history of updates left, a flow's octets go to the hop of the longest live
   -- prefix that contains its address, and to word 0 exactly if no live prefix does.
   pub charges : Contains t a → (amount : ℕ) (words : List ℕ) → length words ≡ wordCount
-      → Charges (live t m h) a amount words (book (memory t m h .first) (memory t m h .long) t a amount words)
+      → Charges (live t m h) a amount words (book (memory t m h .tables .first) (memory t m h .tables .long) t a amount words)
   unfolding book enter
   charges c amount words long =
       let right = demand-2 t m lent h a c in
-      let T = told-look (memory t m h .first) (memory t m h .long) t a in
+      let T = told-look (memory t m h .tables .first) (memory t m h .tables .long) t a in
       let I = inv-history t m lent h in
       record {
         hop = answer .hop;
@@ -97,10 +97,10 @@ module _ (t : Prefix) (m : Lent) (lent : IsLent m t) (h : History) (a : ℕ) whe
   -- where a record is not refused by look up, the word that its answer names is the one that the address is charged to
   names-charged : refusalOf (answer .code) ≡ 0 → (k : ℕ) → names answer k ≡ eqb (chargedTo (live t m h) a) k
   names-charged z k =
-      let right = demand-2 t m lent h a (inside (memory t m h .first) (memory t m h .long) t a z) in
+      let right = demand-2 t m lent h a (inside (memory t m h .tables .first) (memory t m h .tables .long) t a z) in
       let I = inv-history t m lent h in
       let same : answer .hop ≡ chargedTo (live t m h) a = one-charge (I .list .all) (I .list .order) (charged-by right) (charged-to (live t m h) a) in
-      same-test (names? answer (told-look (memory t m h .first) (memory t m h .long) t a) z k)
+      same-test (names? answer (told-look (memory t m h .tables .first) (memory t m h .tables .long) t a) z k)
       (iff? (eqb? (chargedTo (live t m h) a) k) (λ e. sym e ∙ sym same) (λ e. sym same ∙ sym e))
 
 -- ---- every account
@@ -116,8 +116,8 @@ module _ (t : Prefix) (m : Lent) (lent : IsLent m t) (w : List ℕ) (long : leng
       let f = flowOf t m s a amount in
       go (did-book (f .first) (f .long) t a amount (wordsAfter w (flows t m s)))
     where
-      go : {o : Outcome} → Did (lookUp (memory t m (updates s) .first) (memory t m (updates s) .long) t a) amount (wordsAfter w (flows t m s)) o
-          → cond (eqb (o .code) 0 && names (lookUp (memory t m (updates s) .first) (memory t m (updates s) .long) t a) k) amount 0
+      go : {o : Outcome} → Did (lookUp (memory t m (updates s) .tables .first) (memory t m (updates s) .tables .long) t a) amount (wordsAfter w (flows t m s)) o
+          → cond (eqb (o .code) 0 && names (lookUp (memory t m (updates s) .tables .first) (memory t m (updates s) .tables .long) t a) k) amount 0
           ≡ cond (eqb (o .code) 0 && eqb (chargedTo (live t m (updates s)) a) k) amount 0
       go (took z l) = ap (λ (x : Bool). cond x amount 0) (names-charged t m lent (updates s) a z k)
       go (left code n) = not-gained amount code n _ ∙ sym (not-gained amount code n _)
@@ -136,13 +136,13 @@ module _ (t : Prefix) (m : Lent) (lent : IsLent m t) (w : List ℕ) (long : leng
 
 -- A call for many is so many flows of an account: what it leaves of the words is what they leave.
 pub many-carried : (t : Prefix) (m : Lent) (w : List ℕ) (xs ns : List ℕ) (s : Account)
-    → bookEach (memory t m (updates s) .first) (memory t m (updates s) .long) t xs ns (wordsNow t m w s) .words ≡ wordsNow t m w (carriedAll s xs ns)
+    → bookEach (memory t m (updates s) .tables .first) (memory t m (updates s) .tables .long) t xs ns (wordsNow t m w s) .words ≡ wordsNow t m w (carriedAll s xs ns)
 unfolding updates flows carriedAll alsoAll
 many-carried t m w xs ns s =
-    many-booked w (memory t m (updates s) .first) (memory t m (updates s) .long) t xs ns (flows t m s) ∙ ap (wordsAfter w) (same xs ns s)
+    many-booked w (memory t m (updates s) .tables .first) (memory t m (updates s) .tables .long) t xs ns (flows t m s) ∙ ap (wordsAfter w) (same xs ns s)
   where
     same : (ys ks : List ℕ) (r : Account)
-        → alsoAll (memory t m (updates r) .first) (memory t m (updates r) .long) t ys ks (flows t m r) ≡ flows t m (carriedAll r ys ks)
+        → alsoAll (memory t m (updates r) .tables .first) (memory t m (updates r) .tables .long) t ys ks (flows t m r) ≡ flows t m (carriedAll r ys ks)
     same [] ks r = refl
     same (a ∷ ys) [] r = refl
     same (a ∷ ys) (k ∷ ks) r = same ys ks (carried r a k)

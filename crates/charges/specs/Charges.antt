@@ -54,8 +54,8 @@ updates (carried s a amount) = updates s
 -- a flow with the tables as they are now
 abbrev pub flowOf : Prefix → Lent → Account → ℕ → ℕ → Flow
 flowOf t m s a amount = record {
-  first = memory t m (updates s) .first;
-  long = memory t m (updates s) .long;
+  first = memory t m (updates s) .tables .first;
+  long = memory t m (updates s) .tables .long;
   territory = t;
   address = a;
   amount = amount;

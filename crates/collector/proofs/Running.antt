@@ -10,7 +10,7 @@ use Rattle.prefix.specs.Prefixes.{Contains}
 use Rattle.lookup.specs.Lookup.{lookUp}
 use Rattle.records.specs.Record.{size}
 use Rattle.cells.specs.Memory.{Lent, IsLent}
-use Rattle.history.specs.History.{memory as lend, start, memory, live, IsAnswer}
+use Rattle.history.specs.History.{start, memory, live, IsAnswer}
 use Rattle.updates.specs.declared.Report.{Report}
 use Rattle.updates.specs.Calls.{clear, Meets}
 use Rattle.history.proofs.Demand2.{demand-2}
@@ -18,8 +18,8 @@ use Rattle.stream.specs.declared.Step.{Step}
 use Rattle.stream.specs.declared.Step.the-variants.{Expects, Refused}
 use Rattle.stream.specs.declared.Taken.{Taken}
 use Rattle.stream.specs.Taking.{TakenIs}
-use Rattle.stream.specs.Stream.{Stream, streamOf, numberOf, applied, used}
-use Rattle.stream.proofs.Streams.{stream-none, stream-joined, applied-joined, memory-goes-on}
+use Rattle.stream.specs.Stream.{Stream, streamOf, numberOf, lentAfter, used}
+use Rattle.stream.proofs.Streams.{stream-none, stream-joined, lentAfter-joined, memory-goes-on}
 use Rattle.stream.proofs.Counting.{live-counted}
 use Rattle.collector.specs.declared.input.After.{After}
 use Rattle.collector.specs.declared.input.After.the-variants.{Records, Rest, End, Failure}
@@ -31,12 +31,12 @@ use Rattle.collector.specs.Running.{site, Whole, FilledIs, takes, countO
 
 -- nothing handed over yet
 pub handed-none : (expected : ℕ) (m : Lent) → Handed expected m (Goes expected) m
-unfolding applied
+unfolding lentAfter
 handed-none expected m =
     let none = stream-none [] expected refl in
     record {
       bytes = [];
-      lent = sym (ap (λ (s : Stream). applied site m (s .updates)) none);
+      lent = sym (ap (λ (s : Stream). lentAfter site m (s .updates)) none);
       says = (ap (λ (s : Stream). s .step) none, refl);
     }
 
@@ -47,9 +47,9 @@ handed-more {expected} {serial} {m} {n} {k} {r} A B =
     record {
       bytes = A .bytes ++ B .bytes;
       lent =
-          B .lent ∙ ap (λ (x : Lent). applied site x (streamOf (B .bytes) serial .updates)) (A .lent)
-          ∙ sym (applied-joined site m (streamOf (A .bytes) expected .updates) (streamOf (B .bytes) serial .updates))
-          ∙ sym (ap (λ (s : Stream). applied site m (s .updates)) joined);
+          B .lent ∙ ap (λ (x : Lent). lentAfter site x (streamOf (B .bytes) serial .updates)) (A .lent)
+          ∙ sym (lentAfter-joined site m (streamOf (A .bytes) expected .updates) (streamOf (B .bytes) serial .updates))
+          ∙ sym (ap (λ (s : Stream). lentAfter site m (s .updates)) joined);
       says = agrees r (ap (λ (s : Stream). s .step) joined) (B .says);
     }
   where
@@ -104,8 +104,8 @@ took-within {f = f} F e = omega (arith, F .within, e, takes-within (f .count) (f
 
 module _ {t : Prefix} {bytes : List ℕ} {expected : ℕ} {m n : Lent} {lines ls : List ℕ} {r : Taken} (here : t ≡ site)
     (T : TakenIs t bytes expected m lines r n ls) where
-  taken-here : n ≡ applied site m (streamOf bytes expected .updates)
-  taken-here = T .lent ∙ ap (λ (p : Prefix). applied p m (streamOf bytes expected .updates)) here
+  taken-here : n ≡ lentAfter site m (streamOf bytes expected .updates)
+  taken-here = T .lent ∙ ap (λ (p : Prefix). lentAfter p m (streamOf bytes expected .updates)) here
 
   -- the records of a buffer were taken, and their lines could not be printed
   pub handed-unsaid : Handed expected m Fails n
@@ -130,18 +130,17 @@ handed-stops A = record { bytes = A .bytes; lent = A .lent; says = tt }
 -- ---- the whole
 
 -- what was handed over leads on from what clear left
-pub cleared-by : (t : Prefix) (m : Lent) {n : Lent} {o : Report} {f l w u : List ℕ} {next : Next} → t ≡ site → Meets (clear t m) o f l w u → Handed 0 (lend f l w u) next n
+pub cleared-by : (t : Prefix) (m : Lent) {n k : Lent} {o : Report} {next : Next} → t ≡ site → reported o k ≡ clear t m → Handed 0 k next n
     → Handed 0 (clear site m .lent) next n
-cleared-by t m {n} {next = next} here M =
-    subst (λ (x : Lent). Handed 0 x next n)
-    ((λ i. record { first = M .first i; long = M .long i; owners = M .owners i; rules = M .rules i }) ∙ ap (λ (p : Prefix). clear p m .lent) here)
+cleared-by t m {n} {next = next} here e =
+    subst (λ (x : Lent). Handed 0 x next n) (ap (λ (x : Outcome). x .lent) e ∙ ap (λ (p : Prefix). clear p m .lent) here)
 
 module _ (m : Lent) {n : Lent} {next : Next} (lent : IsLent m site) (H : Handed 0 (clear site m .lent) next n) where
   memory-is : n ≡ memory site m (historyOf (H .bytes))
   unfolding memory
   memory-is = H .lent ∙ sym (memory-goes-on site m start (streamOf (H .bytes) 0 .updates))
 
-  pub last-is : {lives opens : ℕ} {r : Last} → r ≡ lastOf next lives opens → lives ≡ used (n .rules) → opens ≡ used (n .owners) → LastIs m r n
+  pub last-is : {lives opens : ℕ} {r : Last} → r ≡ lastOf next lives opens → lives ≡ used (n .rules) → opens ≡ used (n .tables .owners) → LastIs m r n
   last-is {lives} {opens} {r} g e f = record {
     bytes = H .bytes;
     lent = memory-is;
@@ -149,7 +148,7 @@ module _ (m : Lent) {n : Lent} {next : Next} (lent : IsLent m site) (H : Handed 
     lives =
         ap (λ (x : Last). x .live) g ∙ counts next ∙ e ∙ ap (λ (x : Lent). used (x .rules)) memory-is
         ∙ live-counted site m lent (historyOf (H .bytes));
-    opens = ap (λ (x : Last). x .opened) g ∙ opened next ∙ f ∙ ap (λ (x : Lent). used (x .owners)) memory-is;
+    opens = ap (λ (x : Last). x .opened) g ∙ opened next ∙ f ∙ ap (λ (x : Lent). used (x .tables .owners)) memory-is;
   }
     where
       numbered : (x : Next) → Agrees x (streamOf (H .bytes) 0 .step) (H .bytes) → lastOf x lives opens .failed ≡ false
@@ -170,7 +169,7 @@ module _ (m : Lent) {n : Lent} {next : Next} (lent : IsLent m site) (H : Handed 
 
 -- Demand 2 of the program's tables: whatever was handed over, look up answers every address of the territory by the longest match.
 pub tables-answer : (m : Lent) {n : Lent} {r : Last} → IsLent m site → (R : LastIs m r n) → (a : ℕ) → Contains site a
-    → IsAnswer (live site m (historyOf (R .bytes))) a (lookUp (n .first) (n .long) site a)
+    → IsAnswer (live site m (historyOf (R .bytes))) a (lookUp (n .tables .first) (n .tables .long) site a)
 tables-answer m lent R a c =
-    subst (λ (x : Lent). IsAnswer (live site m (historyOf (R .bytes))) a (lookUp (x .first) (x .long) site a)) (sym (R .lent))
+    subst (λ (x : Lent). IsAnswer (live site m (historyOf (R .bytes))) a (lookUp (x .tables .first) (x .tables .long) site a)) (sym (R .lent))
     (demand-2 site m lent (historyOf (R .bytes)) a c)

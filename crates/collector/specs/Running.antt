@@ -11,7 +11,7 @@ use Rattle.cells.specs.Memory.{Lent}
 use Rattle.history.specs.History.{History, start, memory, live}
 use Rattle.stream.specs.declared.Step.{Step}
 use Rattle.stream.specs.declared.Step.the-variants.{Expects, Refused}
-use Rattle.stream.specs.Stream.{streamOf, numberOf, goesOn, applied, used}
+use Rattle.stream.specs.Stream.{streamOf, numberOf, goesOn, lentAfter, used}
 use Rattle.collector.specs.declared.input.After.{After}
 use Rattle.collector.specs.declared.input.After.the-variants.{Records, Rest, End, Failure}
 use Rattle.collector.specs.declared.input.Filled.{Filled}
@@ -71,7 +71,7 @@ Agrees Fails s bytes = Unit {0}
 -- some bytes, read with this serial expected first, lead from the memory m to n
 pub record Handed (expected : ℕ) (m : Lent) (r : Next) (n : Lent) : Type 0 where
   pub bytes : List ℕ
-  pub lent : n ≡ applied site m (streamOf bytes expected .updates)
+  pub lent : n ≡ lentAfter site m (streamOf bytes expected .updates)
   pub says : Agrees r (streamOf bytes expected .step) bytes
 
 -- ---- the whole
@@ -87,4 +87,4 @@ pub record LastIs (m : Lent) (r : Last) (n : Lent) : Type 0 where
   pub lent : n ≡ memory site m (historyOf bytes)
   pub number : r .failed ≡ false → r .code ≡ numberOf (streamOf bytes 0 .step)
   pub lives : r .live ≡ length (live site m (historyOf bytes))
-  pub opens : r .opened ≡ used (memory site m (historyOf bytes) .owners)
+  pub opens : r .opened ≡ used (memory site m (historyOf bytes) .tables .owners)

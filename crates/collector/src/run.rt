@@ -68,7 +68,7 @@ fn take_next(
     rules: &mut [u64],
     expected: u32,
 ) -> Next
-    ensures { λ r. ⌜ Handed expected (memory (now (first .entry)) (now (long .entry)) (now (owners .entry)) (now (rules .entry))) r (memory (now (first .exit)) (now (long .exit)) (now (owners .exit)) (now (rules .exit))) ⌝ }
+    ensures { λ r. ⌜ Handed expected (lentIn first long owners rules) r (lentOut first long owners rules) ⌝ }
 {
     let mut buffer = [0u8; 960];
     let mut lines = [0u32; 192];
@@ -94,7 +94,7 @@ fn take_next(
 
 // Takes records until the stream ends or something fails; the loop's turns are counted as in `input::fill`.
 fn take_stream(first: &mut [u32], long: &mut [u32], owners: &mut [u32], rules: &mut [u64]) -> Next
-    ensures { λ r. ⌜ Handed 0 (memory (now (first .entry)) (now (long .entry)) (now (owners .entry)) (now (rules .entry))) r (memory (now (first .exit)) (now (long .exit)) (now (owners .exit)) (now (rules .exit))) ⌝ }
+    ensures { λ r. ⌜ Handed 0 (lentIn first long owners rules) r (lentOut first long owners rules) ⌝ }
 {
     let mut expected = 0;
     let mut turns = u64::MAX;
@@ -139,7 +139,7 @@ fn last_of(next: Next, live: u64, opened: u64) -> Last
 // From cleared memory, the whole stream, and the numbers of the last line.
 pub fn run(first: &mut [u32], long: &mut [u32], owners: &mut [u32], rules: &mut [u64]) -> Last
     requires { ⌜ LentToUpdate (length (now first)) (length (now long)) (length (now owners)) (length (now rules)) site ⌝ }
-    ensures { λ r. ⌜ LastIs (memory (now (first .entry)) (now (long .entry)) (now (owners .entry)) (now (rules .entry))) r (memory (now (first .exit)) (now (long .exit)) (now (owners .exit)) (now (rules .exit))) ⌝ }
+    ensures { λ r. ⌜ LastIs (lentIn first long owners rules) r (lentOut first long owners rules) ⌝ }
 {
     updates::clear(first, long, owners, rules, territory());
     let next = take_stream(first, long, owners, rules);

@@ -8,9 +8,11 @@ ghost use Rattle.costs.specs.Sheet.{SheetIs};
 ghost use Rattle.octets.specs.Booking.{clearOctets, book};
 ghost use Rattle.octets.specs.Many.{bookAll};
 ghost use Rattle.records.specs.Record.{readAs, Writes};
-ghost use Rattle.cells.specs.Memory.{memory};
+ghost use Rattle.cells.specs.Memory.{lentIn, lentOut};
+ghost use Rattle.prefix.specs.Prefixes.{prefixBy};
+ghost use Rattle.refusals.specs.Codes.{announces, withdraws, re-homes};
 ghost use Rattle.rules.specs.Words.{routeBy};
-ghost use Rattle.updates.specs.Calls.{announce, withdraw, reHome, clear, Meets};
+ghost use Rattle.updates.specs.Calls.{reported, step, clear};
 use costs::line::Values;
 use prefix::Prefix;
 use records::Reading;
@@ -25,7 +27,7 @@ pub extern "C" fn rk_look_up(
     base_length: u32,
     address: u32,
 ) -> u32
-    ensures { λ r. ⌜ r ≡ lookUpBytes (now (first .entry)) (now («long_table» .entry)) (record { address = base; length = «base_length» }) address ⌝ }
+    ensures { λ r. ⌜ r ≡ lookUpBytes (now (first .entry)) (now («long_table» .entry)) (prefixBy base «base_length») address ⌝ }
 {
     let territory = Prefix {
         address: base,
@@ -43,7 +45,9 @@ pub extern "C" fn rk_look_up_all(
     addresses: &[u32],
     answers: &mut [u32],
 ) -> u32
-    ensures { λ r. ⌜ record { code = r; answers = now (answers .exit) } ≡ allOf (now (first .entry)) (now («long_table» .entry)) (record { address = base; length = «base_length» }) (now (addresses .entry)) (now (answers .entry)) ⌝ }
+    ensures { λ r. ⌜ record { code = r; answers = now (answers .exit) }
+        ≡ allOf (now (first .entry)) (now («long_table» .entry)) (prefixBy base «base_length») (now (addresses .entry))
+        (now (answers .entry)) ⌝ }
 {
     let territory = Prefix {
         address: base,
@@ -61,7 +65,8 @@ pub extern "C" fn rk_clear(
     base: u32,
     base_length: u32,
 ) -> u32
-    ensures { λ r. ⌜ Meets (clear (record { address = base; length = «base_length» }) (memory (now (first .entry)) (now («long_table» .entry)) (now (owners .entry)) (now (rules .entry)))) (record { code = r; cells = 0 }) (now (first .exit)) (now («long_table» .exit)) (now (owners .exit)) (now (rules .exit)) ⌝ }
+    ensures { λ r. ⌜ reported (record { code = r; cells = 0 }) (lentOut first «long_table» owners rules)
+        ≡ clear (prefixBy base «base_length») (lentIn first «long_table» owners rules) ⌝ }
 {
     let territory = Prefix {
         address: base,
@@ -82,7 +87,8 @@ pub extern "C" fn rk_announce(
     length: u32,
     hop: u32,
 ) -> Report
-    ensures { λ r. ⌜ Meets (announce (record { address = base; length = «base_length» }) (routeBy (record { address = address; length = length }) hop) (memory (now (first .entry)) (now («long_table» .entry)) (now (owners .entry)) (now (rules .entry)))) r (now (first .exit)) (now («long_table» .exit)) (now (owners .exit)) (now (rules .exit)) ⌝ }
+    ensures { λ r. ⌜ reported r (lentOut first «long_table» owners rules)
+        ≡ step (prefixBy base «base_length») (announces (routeBy (prefixBy address length) hop)) (lentIn first «long_table» owners rules) ⌝ }
 {
     let territory = Prefix {
         address: base,
@@ -103,7 +109,8 @@ pub extern "C" fn rk_withdraw(
     address: u32,
     length: u32,
 ) -> Report
-    ensures { λ r. ⌜ Meets (withdraw (record { address = base; length = «base_length» }) (record { address = address; length = length }) (memory (now (first .entry)) (now («long_table» .entry)) (now (owners .entry)) (now (rules .entry)))) r (now (first .exit)) (now («long_table» .exit)) (now (owners .exit)) (now (rules .exit)) ⌝ }
+    ensures { λ r. ⌜ reported r (lentOut first «long_table» owners rules)
+        ≡ step (prefixBy base «base_length») (withdraws (prefixBy address length)) (lentIn first «long_table» owners rules) ⌝ }
 {
     let territory = Prefix {
         address: base,
@@ -125,7 +132,8 @@ pub extern "C" fn rk_re_home(
     length: u32,
     hop: u32,
 ) -> Report
-    ensures { λ r. ⌜ Meets (reHome (record { address = base; length = «base_length» }) (routeBy (record { address = address; length = length }) hop) (memory (now (first .entry)) (now («long_table» .entry)) (now (owners .entry)) (now (rules .entry)))) r (now (first .exit)) (now («long_table» .exit)) (now (owners .exit)) (now (rules .exit)) ⌝ }
+    ensures { λ r. ⌜ reported r (lentOut first «long_table» owners rules)
+        ≡ step (prefixBy base «base_length») (re-homes (routeBy (prefixBy address length) hop)) (lentIn first «long_table» owners rules) ⌝ }
 {
     let territory = Prefix {
         address: base,
@@ -166,7 +174,9 @@ pub extern "C" fn rk_book(
     address: u32,
     amount: u64,
 ) -> u32
-    ensures { λ r. ⌜ record { code = r; words = now (octets .exit) } ≡ book (now (first .entry)) (now («long_table» .entry)) (record { address = base; length = «base_length» }) address amount (now (octets .entry)) ⌝ }
+    ensures { λ r. ⌜ record { code = r; words = now (octets .exit) }
+        ≡ book (now (first .entry)) (now («long_table» .entry)) (prefixBy base «base_length») address amount
+        (now (octets .entry)) ⌝ }
 {
     let territory = Prefix {
         address: base,
@@ -186,7 +196,9 @@ pub extern "C" fn rk_book_all(
     amounts: &[u64],
     codes: &mut [u32],
 ) -> u32
-    ensures { λ r. ⌜ record { code = r; words = now (octets .exit); codes = now (codes .exit) } ≡ bookAll (now (first .entry)) (now («long_table» .entry)) (record { address = base; length = «base_length» }) (now (addresses .entry)) (now (amounts .entry)) (now (codes .entry)) (now (octets .entry)) ⌝ }
+    ensures { λ r. ⌜ record { code = r; words = now (octets .exit); codes = now (codes .exit) }
+        ≡ bookAll (now (first .entry)) (now («long_table» .entry)) (prefixBy base «base_length») (now (addresses .entry))
+        (now (amounts .entry)) (now (codes .entry)) (now (octets .entry)) ⌝ }
 {
     let territory = Prefix {
         address: base,

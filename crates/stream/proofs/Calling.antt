@@ -15,31 +15,25 @@ use Rattle.updates.specs.Calls.{Outcome, announce, withdraw, reHome, Meets}
 use Rattle.stream.specs.Stream.{callOf}
 use Rattle.stream.specs.Taking.{TurnIs}
 
-abbrev named : Update → Prefix
-named u = record { address = u .address; length = u .length }
+abbrev prefixIn : Update → Prefix
+prefixIn u = record { address = u .address; length = u .length }
 
-module _ (t : Prefix) (u : Update) (m : Lent) {r : Report} {f l w v : List ℕ} where
+module _ (t : Prefix) (u : Update) (m : Lent) {o : Outcome} where
   -- what a call leaves is what the update leaves whose call it is
-  by-call : {c : Call} → callOf u ≡ c → Meets (step t c m) r f l w v → Meets (step t (callOf u) m) r f l w v
-  by-call e = subst (λ (c : Call). Meets (step t c m) r f l w v) (sym e)
+  by-call : {c : Call} → callOf u ≡ c → o ≡ step t c m → o ≡ step t (callOf u) m
+  by-call e k = k ∙ ap (λ (c : Call). step t c m) (sym e)
 
-  pub announcing : u .kind ≡ announceKind → Meets (announce t (routeBy (named u) (u .hop)) m) r f l w v → Meets (step t (callOf u) m) r f l w v
-  announcing a = by-call {c = announces (routeBy (named u) (u .hop))} (cond-on _ _ (eqb? (u .kind) announceKind) a)
+  pub announcing : u .kind ≡ announceKind → o ≡ step t (announces (routeBy (prefixIn u) (u .hop))) m → o ≡ step t (callOf u) m
+  announcing a = by-call (cond-on _ _ (eqb? (u .kind) announceKind) a)
 
-  pub withdrawing : ¬ (u .kind ≡ announceKind) → u .kind ≡ withdrawKind → Meets (withdraw t (named u) m) r f l w v → Meets (step t (callOf u) m) r f l w v
-  withdrawing a b =
-      by-call {c = withdraws (named u)} (cond-off _ _ (eqb? (u .kind) announceKind) a ∙ cond-on _ _ (eqb? (u .kind) withdrawKind) b)
+  pub withdrawing : ¬ (u .kind ≡ announceKind) → u .kind ≡ withdrawKind → o ≡ step t (withdraws (prefixIn u)) m → o ≡ step t (callOf u) m
+  withdrawing a b = by-call (cond-off _ _ (eqb? (u .kind) announceKind) a ∙ cond-on _ _ (eqb? (u .kind) withdrawKind) b)
 
-  pub re-homing : ¬ (u .kind ≡ announceKind) → ¬ (u .kind ≡ withdrawKind) → Meets (reHome t (routeBy (named u) (u .hop)) m) r f l w v → Meets (step t (callOf u) m) r f l w v
-  re-homing a b =
-      by-call {c = re-homes (routeBy (named u) (u .hop))}
-      (cond-off _ _ (eqb? (u .kind) announceKind) a ∙ cond-off _ _ (eqb? (u .kind) withdrawKind) b)
+  pub re-homing : ¬ (u .kind ≡ announceKind) → ¬ (u .kind ≡ withdrawKind) → o ≡ step t (re-homes (routeBy (prefixIn u) (u .hop))) m
+      → o ≡ step t (callOf u) m
+  re-homing a b = by-call (cond-off _ _ (eqb? (u .kind) announceKind) a ∙ cond-off _ _ (eqb? (u .kind) withdrawKind) b)
 
 -- ---- a record
-
--- what meets an outcome is that outcome
-outcome-is : {o : Outcome} {r : Report} {f l w v : List ℕ} → Meets o r f l w v → record { report = r; lent = memory f l w v } ≡ o
-outcome-is M i = record { report = M .report i; lent = record { first = M .first i; long = M .long i; owners = M .owners i; rules = M .rules i } }
 
 module _ (t : Prefix) (bytes : List ℕ) (expected : ℕ) (m : Lent) {g : Reading} (e : g ≡ readAs bytes expected) where
   pub turn-refused : ¬ (g .code ≡ 0) → TurnIs t bytes expected m (record { code = g .code; serial = 0; report = record { code = 0; cells = 0 } }) m
@@ -50,11 +44,11 @@ module _ (t : Prefix) (bytes : List ℕ) (expected : ℕ) (m : Lent) {g : Readin
     kept = λ z. refl;
   }
 
-  pub turn-taken : g .code ≡ 0 → {r : Report} {f l w v : List ℕ} → Meets (step t (callOf (g .update)) m) r f l w v
-      → TurnIs t bytes expected m (record { code = 0; serial = g .update .serial; report = r }) (memory f l w v)
-  turn-taken z M = record {
+  pub turn-taken : g .code ≡ 0 → {r : Report} {n : Lent} → reported r n ≡ step t (callOf (g .update)) m
+      → TurnIs t bytes expected m (record { code = 0; serial = g .update .serial; report = r }) n
+  turn-taken z o = record {
     number = sym z ∙ ap (λ (x : Reading). x .code) e;
     serial = λ k. ap (λ (x : Reading). x .update .serial) e;
-    taken = λ k. outcome-is M ∙ ap (λ (x : Reading). step t (callOf (x .update)) m) e;
+    taken = λ k. o ∙ ap (λ (x : Reading). step t (callOf (x .update)) m) e;
     kept = λ n. absurd (n refl);
   }

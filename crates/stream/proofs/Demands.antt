@@ -13,12 +13,12 @@ use Rattle.history.specs.Costs.{Costs}
 use Rattle.history.specs.History.{History, start, _then_, step, named, memory, report, live, IsAnswer}
 use Rattle.history.proofs.Demand2.{demand-2}
 use Rattle.history.proofs.Demand3.{demand-3}
-use Rattle.stream.specs.Stream.{callOf, goesOn, applied, linesOf}
+use Rattle.stream.specs.Stream.{callOf, goesOn, lentAfter, linesOf}
 use Rattle.stream.proofs.Streams.{memory-goes-on}
 
 module _ (t : Prefix) (m : Lent) where
   -- the memory after the updates of a stream is that of the history of their calls
-  pub stream-memory : (us : List Update) → memory t m (goesOn start us) ≡ applied t (clear t m .lent) us
+  pub stream-memory : (us : List Update) → memory t m (goesOn start us) ≡ lentAfter t (clear t m .lent) us
   unfolding memory
   stream-memory us = memory-goes-on t m start us
 
@@ -31,16 +31,16 @@ module _ (t : Prefix) (m : Lent) where
 
   module _ (l : IsLent m t) (us : List Update) where
     pub stream-demand-2 : (a : ℕ) → Contains t a
-        → IsAnswer (live t m (goesOn start us)) a (lookUp (applied t (clear t m .lent) us .first) (applied t (clear t m .lent) us .long) t a)
+        → IsAnswer (live t m (goesOn start us)) a (lookUp (lentAfter t (clear t m .lent) us .tables .first) (lentAfter t (clear t m .lent) us .tables .long) t a)
     stream-demand-2 a c =
-        subst (λ (n : Lent). IsAnswer (live t m (goesOn start us)) a (lookUp (n .first) (n .long) t a)) (stream-memory us)
+        subst (λ (n : Lent). IsAnswer (live t m (goesOn start us)) a (lookUp (n .tables .first) (n .tables .long) t a)) (stream-memory us)
         (demand-2 t m l (goesOn start us) a c)
 
     pub stream-demand-3 : (u : Update)
-        → Costs t (named (callOf u)) (live t m (goesOn start us)) (live t m (goesOn start us then callOf u)) (applied t (clear t m .lent) us)
-        (step t (callOf u) (applied t (clear t m .lent) us) .lent) (step t (callOf u) (applied t (clear t m .lent) us) .report .cells)
+        → Costs t (named (change (callOf u))) (live t m (goesOn start us)) (live t m (goesOn start us then callOf u)) (lentAfter t (clear t m .lent) us)
+        (step t (callOf u) (lentAfter t (clear t m .lent) us) .lent) (step t (callOf u) (lentAfter t (clear t m .lent) us) .report .cells)
     unfolding memory report
     stream-demand-3 u =
         let h = goesOn start us in
-        subst (λ (n : Lent). Costs t (named (callOf u)) (live t m h) (live t m (h then callOf u)) n (step t (callOf u) n .lent) (step t (callOf u) n .report .cells))
+        subst (λ (n : Lent). Costs t (named (change (callOf u))) (live t m h) (live t m (h then callOf u)) n (step t (callOf u) n .lent) (step t (callOf u) n .report .cells))
         (stream-memory us) (demand-3 t m l h (callOf u))

@@ -17,7 +17,7 @@ use Rattle.cells.specs.Memory.{Lent}
 use Rattle.history.specs.History.{History, _then_, step, memory}
 use Rattle.stream.specs.declared.Step.{Step}
 use Rattle.stream.specs.declared.Step.the-variants.{Expects, Refused}
-use Rattle.stream.specs.Stream.{Stream, refusedAt, first-then, ofRecords, recordsIn, streamOf, callOf, goesOn, applied}
+use Rattle.stream.specs.Stream.{Stream, refusedAt, first-then, ofRecords, recordsIn, streamOf, callOf, goesOn, lentAfter}
 
 -- ---- record by record
 
@@ -120,15 +120,15 @@ pub stream-joined : (xs ys : List ℕ) (expected serial : ℕ) → length xs % s
     → streamOf (xs ++ ys) expected ≡ record { updates = streamOf xs expected .updates ++ streamOf ys serial .updates; step = streamOf ys serial .step }
 stream-joined xs ys expected serial whole goes = joined-at (length xs / size) xs ys expected serial (omega arith) goes
 
-pub applied-joined : (t : Prefix) (m : Lent) (us vs : List Update) → applied t m (us ++ vs) ≡ applied t (applied t m us) vs
-unfolding applied
-applied-joined t m [] vs = refl
-applied-joined t m (u ∷ us) vs = applied-joined t (step t (callOf u) m .lent) us vs
+pub lentAfter-joined : (t : Prefix) (m : Lent) (us vs : List Update) → lentAfter t m (us ++ vs) ≡ lentAfter t (lentAfter t m us) vs
+unfolding lentAfter
+lentAfter-joined t m [] vs = refl
+lentAfter-joined t m (u ∷ us) vs = lentAfter-joined t (step t (callOf u) m .lent) us vs
 
 -- ---- a history
 
 -- the memory of a history that goes on with some updates
-pub memory-goes-on : (t : Prefix) (m : Lent) (h : History) (us : List Update) → memory t m (goesOn h us) ≡ applied t (memory t m h) us
-unfolding applied memory
+pub memory-goes-on : (t : Prefix) (m : Lent) (h : History) (us : List Update) → memory t m (goesOn h us) ≡ lentAfter t (memory t m h) us
+unfolding lentAfter memory
 memory-goes-on t m h [] = refl
 memory-goes-on t m h (u ∷ us) = memory-goes-on t m (h then callOf u) us

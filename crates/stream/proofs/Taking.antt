@@ -15,7 +15,7 @@ use Rattle.history.specs.History.{step}
 use Rattle.stream.specs.declared.Step.{Step}
 use Rattle.stream.specs.declared.Step.the-variants.{Expects, Refused}
 use Rattle.stream.specs.declared.Turn.{Turn}
-use Rattle.stream.specs.Stream.{Stream, first-then, streamOf, applied, linesOf}
+use Rattle.stream.specs.Stream.{Stream, first-then, streamOf, lentAfter, linesOf}
 use Rattle.stream.specs.Taking.{TurnIs, TakenIs}
 use Rattle.stream.proofs.Streams.{stream-none, stream-more, stream-refused, accepted-whole}
 
@@ -44,7 +44,7 @@ module _ (t : Prefix) (bytes : List ℕ) (expected : ℕ) (m : Lent) (lines : Li
     pub within : at ≤ length bytes
     pub stands : streamOf (drop at bytes) next .step ≡ streamOf bytes expected .step
     pub counted : count + length (streamOf (drop at bytes) next .updates) ≡ length (streamOf bytes expected .updates)
-    pub lent : applied t n (streamOf (drop at bytes) next .updates) ≡ applied t m (streamOf bytes expected .updates)
+    pub lent : lentAfter t n (streamOf (drop at bytes) next .updates) ≡ lentAfter t m (streamOf bytes expected .updates)
     pub done : List ℕ
     pub long : length done ≡ 3 * count
     pub words : ls ≡ done ++ drop (3 * count) lines
@@ -67,13 +67,13 @@ module _ (t : Prefix) (bytes : List ℕ) (expected : ℕ) (m : Lent) (lines : Li
   ends : {n : Lent} {ls : List ℕ} {next count at : ℕ} {s : Step} → Going n ls next count at
       → streamOf (drop at bytes) next ≡ record { updates = []; step = s }
       → TakenIs t bytes expected m lines (record { step = s; count = count }) n ls
-  unfolding applied linesOf
+  unfolding lentAfter linesOf
   ends {n} {ls} {next} {count} {at} {s} G e =
       let none : length (streamOf (drop at bytes) next .updates) ≡ 0 = ap (λ (x : Stream). length (x .updates)) e in
       record {
         stands = sym (ap (λ (x : Stream). x .step) e) ∙ G .stands;
         count = omega (arith, G .counted);
-        lent = sym (ap (λ (x : Stream). applied t n (x .updates)) e) ∙ G .lent;
+        lent = sym (ap (λ (x : Stream). lentAfter t n (x .updates)) e) ∙ G .lent;
         printed =
             G .words
             ∙ ap (λ (x : List ℕ). x ++ drop (3 * count) lines)
@@ -120,7 +120,7 @@ module _ (t : Prefix) (bytes : List ℕ) (expected : ℕ) (m : Lent) (lines : Li
     pub going-more : {next' : ℕ} {ls' : List ℕ} → next' ≡ nextSerial (r .serial)
         → ls' ≡ take (3 * count) ls ++ (r .serial ∷ r .report .code ∷ r .report .cells ∷ drop (3 * count + 3) ls)
         → Going n' ls' next' (count + 1) (at + size)
-    unfolding applied linesOf
+    unfolding lentAfter linesOf
     going-more {next'} {ls'} follows put =
         let u = readAs (drop at bytes) next .update in
         let serial = T .serial accepted in
@@ -139,8 +139,8 @@ module _ (t : Prefix) (bytes : List ℕ) (expected : ℕ) (m : Lent) (lines : Li
           stands = sym (ap (λ (x : Stream). x .step) e) ∙ G .stands;
           counted = omega (arith, G .counted);
           lent =
-              ap (λ (x : Outcome). applied t (x .lent) (rest .updates)) o
-              ∙ sym (ap (λ (x : Stream). applied t n (x .updates)) e) ∙ G .lent;
+              ap (λ (x : Outcome). lentAfter t (x .lent) (rest .updates)) o
+              ∙ sym (ap (λ (x : Stream). lentAfter t n (x .updates)) e) ∙ G .lent;
           done = G .done ++ line;
           long = length-append (G .done) line ∙ omega (arith, G .long);
           words =

@@ -67,9 +67,9 @@ goesOn h [] = h
 goesOn h (u ∷ us) = goesOn (h then callOf u) us
 
 -- the lent memory after the updates, each taken by the call that its contract says
-unfoldable pub applied : Prefix → Lent → List Update → Lent
-applied t m [] = m
-applied t m (u ∷ us) = applied t (step t (callOf u) m .lent) us
+unfoldable pub lentAfter : Prefix → Lent → List Update → Lent
+lentAfter t m [] = m
+lentAfter t m (u ∷ us) = lentAfter t (step t (callOf u) m .lent) us
 
 -- the lines: for each update its serial, the number that the tables answered and the cells that it changed
 unfoldable pub linesOf : Prefix → Lent → List Update → List ℕ

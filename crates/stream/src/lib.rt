@@ -43,7 +43,8 @@ fn take_update(
     territory: Prefix,
     update: Update,
 ) -> Report
-    ensures { λ r. ⌜ Meets (step territory (callOf update) (memory (now (first .entry)) (now (long .entry)) (now (owners .entry)) (now (rules .entry)))) r (now (first .exit)) (now (long .exit)) (now (owners .exit)) (now (rules .exit)) ⌝ }
+    ensures { λ r. ⌜ reported r (lentOut first long owners rules)
+        ≡ step territory (callOf update) (lentIn first long owners rules) ⌝ }
 {
     let prefix = Prefix {
         address: update.address,
@@ -69,7 +70,7 @@ fn take_record(
     bytes: &[u8],
     expected: u32,
 ) -> Turn
-    ensures { λ r. ⌜ TurnIs territory (now (bytes .entry)) expected (memory (now (first .entry)) (now (long .entry)) (now (owners .entry)) (now (rules .entry))) r (memory (now (first .exit)) (now (long .exit)) (now (owners .exit)) (now (rules .exit))) ⌝ }
+    ensures { λ r. ⌜ TurnIs territory (now (bytes .entry)) expected (lentIn first long owners rules) r (lentOut first long owners rules) ⌝ }
 {
     let reading = records::read(bytes, expected);
     let update = reading.update;
@@ -113,7 +114,7 @@ pub fn take_records(
     lines: &mut [u32],
 ) -> Taken
     requires { ⌜ 3 * recordsIn (now bytes) ≤ length (now lines) ⌝ }
-    ensures { λ r. ⌜ TakenIs territory (now (bytes .entry)) expected (memory (now (first .entry)) (now (long .entry)) (now (owners .entry)) (now (rules .entry))) (now (lines .entry)) r (memory (now (first .exit)) (now (long .exit)) (now (owners .exit)) (now (rules .exit))) (now (lines .exit)) ⌝ }
+    ensures { λ r. ⌜ TakenIs territory (now (bytes .entry)) expected (lentIn first long owners rules) (now (lines .entry)) r (lentOut first long owners rules) (now (lines .exit)) ⌝ }
 {
     let mut next = expected;
     let mut count = 0;

@@ -10,7 +10,7 @@ use Rattle.stream.proofs.take_record.Tie as tie
 
 -- the memory at entry
 abbrev at-entry : tie.Start → Lent
-at-entry s = memory (s .args .first .now) (s .args .long .now) (s .args .owners .now) (s .args .rules .now)
+at-entry s = lent (s .args .first) (s .args .long) (s .args .owners) (s .args .rules)
 
 abbrev start : tie.After-read → tie.Start
 start c = c .before .before .before .before .before .before

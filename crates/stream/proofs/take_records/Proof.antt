@@ -13,7 +13,7 @@ abbrev Inv-loop : tie.InvT-loop
 Inv-loop first₀ long₀ owners₀ rules₀ territory bytes expected lines₀ next₀ count₀ at₀ first long owners rules lines next count at =
     (length first ≡ length first₀) × (length long ≡ length long₀) × (length owners ≡ length owners₀) × (length rules ≡ length rules₀)
     × (length lines ≡ length lines₀)
-    × Going territory bytes expected (memory first₀ long₀ owners₀ rules₀) lines₀ (memory first long owners rules) lines next count at
+    × Going territory bytes expected (lentOf first₀ long₀ owners₀ rules₀) lines₀ (lentOf first long owners rules) lines next count at
 
 abbrev μ-loop : tie.MeasureT-loop
 μ-loop first₀ long₀ owners₀ rules₀ territory bytes expected lines₀ next₀ count₀ at₀ first long owners rules lines next count at =

@@ -41,7 +41,7 @@ returns : tie.Need-returns
 returns c =
     let s = c .before .before .before .before .before .before .before .before .before .before .before .before .before .before .before .before .before .before .before .before .before .before .before .before .before .before .before .before .before .before .before .before .before .before .before .before in
     let k = c .before .before .before .before .before .before .before .before .before .before .before .before .before in
-    let m = memory (s .args .first .now) (s .args .long .now) (s .args .owners .now) (s .args .rules .now) in
+    let m = lent (s .args .first) (s .args .long) (s .args .owners) (s .args .rules) in
     last-is m (s .pre) (cleared-by _ m (c .before .before .before .before .before .before .before .before .before .before .before .before .before .before .before .before .before .before .before .before .before .before .before .before .before .before .before .territory .ensures) (c .before .before .before .before .before .before .before .before .before .before .before .before .before .before .before .before .before .before .before .before .before .before .before .before .before .before .clear .ensures) (k .take-stream .ensures))
     (c .last-of .ensures) (omega (arith, c .before .before .before .live-prefixes .ensures)) (omega (arith, c .before .open-segments .ensures))
 

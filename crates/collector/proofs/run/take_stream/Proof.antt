@@ -13,7 +13,7 @@ use Rattle.collector.proofs.run.take_stream.Tie as tie
 abbrev Inv-loop : tie.InvT-loop
 Inv-loop first₀ long₀ owners₀ rules₀ expected₀ turns₀ first long owners rules expected turns =
     (length first ≡ length first₀) × (length long ≡ length long₀) × (length owners ≡ length owners₀) × (length rules ≡ length rules₀)
-    × Handed 0 (memory first₀ long₀ owners₀ rules₀) (Expects expected) (memory first long owners rules)
+    × Handed 0 (lentOf first₀ long₀ owners₀ rules₀) (Expects expected) (lentOf first long owners rules)
 
 abbrev μ-loop : tie.MeasureT-loop
 μ-loop first₀ long₀ owners₀ rules₀ expected₀ turns₀ first long owners rules expected turns = turns
