@@ -2,33 +2,22 @@
 -- block, and is a run of places there. Assumes nothing.
 use mathlib.Core.Path.{_≡_, sym, ap, subst, _∙_}
 use Prim.Native.Nat.{ℕ, _+_, _-_, _*_, _%_, _^_, _≤_, _<_}
-use native.Mathlib.Nat.{mod-lt, mod-le}
+use native.Mathlib.Nat.{mod-le}
 use native.Mathlib.Omega.{arith}
 use lib.Dec.{lit≤}
 use lib.Pow.{pow-add, pow-pos, pow-mono, mod-mod-pow}
 use Rattle.ground.proofs.Cases.{by-lt}
 use Rattle.ground.proofs.Tests.{Decides, leb?, and?, iff?}
 use Rattle.prefix.specs.declared.Prefix.{Prefix}
-use Rattle.prefix.specs.Prefixes.{span, top, clearedOf, contains, WellFormed, Contains, Encloses}
+use Rattle.prefix.specs.Prefixes.{span, top, WellFormed, Contains, Encloses}
 use Rattle.prefix.specs.Geometry.{width, blockSize, isTerritory, Territory, runs, blocks, blockOf, blockStart, touched}
-use Rattle.prefix.proofs.Prefixes.{wellFormed?, contains?, kept, address-of, in-range, by-range, ends-inside}
+use Rattle.prefix.proofs.Prefixes.{wellFormed?, in-range, by-range, ends-inside}
 use Rattle.prefix.proofs.Blocks.{Opens}
 
 pub isTerritory? : (t : Prefix) → Decides (Territory t) (isTerritory t)
 unfolding isTerritory
 isTerritory? t =
     iff? (and? (leb? (t .length) width) (wellFormed? t)) (λ h. record { wide = h .0; formed = h .1 }) (λ h. (h .wide, h .formed))
-
--- an address of a territory cleared is the territory's own, and no other address is
-pub cleared? : {t : Prefix} (a : ℕ) → WellFormed t → Decides (clearedOf (t .length) a ≡ t .address) (contains t a)
-unfolding top
-cleared? {t} a w = iff? (contains? t a) (λ c. kept a (span (t .length)) ∙ sym (address-of w c)) (λ e. by-range w (low e) (high e))
-  where
-    low : clearedOf (t .length) a ≡ t .address → t .address ≤ a
-    low e = omega arith
-
-    high : clearedOf (t .length) a ≡ t .address → a < t .address + span (t .length)
-    high e = omega (arith, mod-lt a (pow-pos (32 - t .length)), mod-le a (span (t .length)))
 
 -- ---- runs of any width w that is at least the prefix's length
 

@@ -3,6 +3,7 @@ ghost use mathlib.Core.Path.{_≡_};
 ghost use Prim.Native.Nat.{_-_, _^_, _<_, _≤_};
 ghost use Rattle.prefix.specs.Geometry.{width, blockOf, blockStart, touched};
 use crate::Prefix;
+use crate::span_of;
 
 // An aligned run of addresses that share their first WIDTH bits: its numbers, named once here.
 pub struct Block {}
@@ -27,7 +28,7 @@ pub fn blocks_of(length: u32) -> usize
     requires { ⌜ length ≤ width ⌝ }
     ensures { λ r. ⌜ r ≡ 2 ^ (width - length) ⌝ }
 {
-    1usize << ((Block::WIDTH - length) as usize)
+    (span_of(length) / Block::SIZE as u64) as usize
 }
 
 // The number of the block that holds the address, within the territory.

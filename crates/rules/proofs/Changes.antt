@@ -1,5 +1,5 @@
 -- What `put` and `take_out` leave: the words of the list with the route, and of the list without the prefix. Assumes nothing.
-use mathlib.Core.Path.{_≡_, refl, sym, ap, ap₂, _∙_}
+use mathlib.Core.Path.{_≡_, refl, sym, ap, ap₂, subst, _∙_}
 use mathlib.Core.Bool.{Bool, true, false}
 use mathlib.Core.List.{List, _∷_, _++_, map, append-assoc}
 use Prim.Native.Nat.{ℕ, suc, _-_, _≤_, _<_}
@@ -9,47 +9,41 @@ use lib.Seq.{length-take-le, getD-take, take-take, drop-append-le, set-split, sl
 use Rattle.ground.proofs.Cases.{by-cmp}
 use Rattle.ground.proofs.Tests.{says, denies}
 use Rattle.prefix.specs.declared.Prefix.{Prefix}
-use Rattle.prefix.specs.Prefixes.{key, WellFormed}
+use Rattle.prefix.specs.Prefixes.{WellFormed, Before}
 use Rattle.prefix.specs.Routes.{Route, with-route, without}
-use Rattle.prefix.proofs.Prefixes.{same-key}
-use Rattle.rules.specs.Words.{prefixOf, routeOf, routeBy, wordOf, wordKey, keyOf}
-use Rattle.rules.specs.Rules.{live, routes, wordsOf, Listed, PlaceIs, insertedAt, removedAt}
-use Rattle.rules.proofs.Words.{word-key, key-less}
+use Rattle.rules.specs.Words.{prefixOf, routeOf, routeBy, wordOf, keyOf}
+use Rattle.rules.specs.Rules.{routes, wordsOf}
+use Rattle.rules.specs.inner.Places.{Listed, keyAt, PlaceIs, insertedAt, removedAt}
+use Rattle.rules.proofs.Words.{word-order}
 use Rattle.rules.proofs.LiveWords.{live-take}
-use Rattle.rules.proofs.Indices.{index-routes, listed-within, listed-route, isLive?}
+use Rattle.rules.proofs.Indices.{index-routes, listed-within, listed-short, isLive?}
 use Rattle.rules.proofs.Searches.{key-prefix, position-found, live-at-place}
 use Rattle.rules.proofs.RouteWords.{zeros-drop}
-use Rattle.rules.proofs.Placed.{keyAt, with-new, with-same, without-one}
+use Rattle.rules.proofs.Placed.{prefixAt, with-new, with-same, without-one}
 
--- ---- the keys around a place
+-- ---- the prefixes around a place
 
 module _ {ws : List ℕ} {n : ℕ} {p : Prefix} {at : ℕ} {found : Bool} (s : Listed ws n) (w : WellFormed p) (q : PlaceIs ws n p at found) where
-  short : (i : ℕ) → i < n → prefixOf (getD ws i 0) .length ≤ 32
-  short i l = listed-route s i l .formed .short
-
-  below : (i : ℕ) → i < at → keyAt ws i < key p
-  below i l =
-      let h = q .position .below i l in
-      key-less (prefixOf (getD ws i 0)) p (short i (omega arith)) (w .short) .0 (omega (arith, word-key (getD ws i 0)))
+  below : (i : ℕ) → i < at → Before (prefixAt ws i) p
+  below i l = word-order (prefixAt ws i) p (listed-short s i (omega (arith, q .position .within))) (w .short) .0 (q .position .below i l)
 
   -- a live prefix is at the place
-  pub place-live : found ≡ true → (at < n) × (keyAt ws at ≡ key p)
+  pub place-live : found ≡ true → (at < n) × (prefixAt ws at ≡ p)
   place-live y =
-      let h = live-at-place s w (q .position) (says (isLive? p (routes ws) (s .all) w) (sym (q .live) ∙ y)) in
-      (h .0, ap key (key-prefix s w (q .position) at (h .0) (h .1)))
+      let h = live-at-place s w (q .position) (says (isLive? p (routes ws)) (sym (q .live) ∙ y)) in
+      (h .0, key-prefix s w (q .position) at (h .0) (h .1))
 
   -- one that is not live comes before all from the place on
-  above : found ≡ false → (i : ℕ) → at ≤ i → i < n → key p < keyAt ws i
+  above : found ≡ false → (i : ℕ) → at ≤ i → i < n → Before p (prefixAt ws i)
   above y i l h =
-      by-cmp (wordKey (getD ws i 0)) (keyOf p)
+      by-cmp (keyAt ws i) (keyOf p)
       (λ less. absurd (omega (arith, q .position .above i l h)))
-      (λ e. absurd (denies (isLive? p (routes ws) (s .all) w) (sym (q .live) ∙ y)
+      (λ e. absurd (denies (isLive? p (routes ws)) (sym (q .live) ∙ y)
       (routeOf (getD ws i 0), index-routes ws i (omega (arith, s .count)) refl, key-prefix s w (q .position) i h e)))
-      (λ more. key-less p (prefixOf (getD ws i 0)) (w .short) (short i h) .0 (omega (arith, word-key (getD ws i 0))))
+      (λ more. word-order p (prefixAt ws i) (w .short) (listed-short s i h) .0 more)
 
-  only : (i : ℕ) → i < n → keyAt ws i ≡ key p → i ≡ at
-  only i l e =
-      position-found s w (q .position) i l (word-key (getD ws i 0) ∙ ap keyOf (same-key (listed-route s i l .formed) w e))
+  only : (i : ℕ) → i < n → prefixAt ws i ≡ p → i ≡ at
+  only i l e = position-found s w (q .position) i l (ap keyOf e)
 
 -- ---- the words of a list of routes, by what they are and how many
 
@@ -69,18 +63,19 @@ module _ {ws : List ℕ} {n : ℕ} (s : Listed ws n) where
 -- ---- a route put in, and a prefix taken out
 
 module _ {ws : List ℕ} {n : ℕ} {p : Prefix} {at : ℕ} {found : Bool} (s : Listed ws n) (w : WellFormed p) (q : PlaceIs ws n p at found) where
-  -- the first n words, by the keys that they have in ws
+  -- the first n words, by the prefixes that they have in ws
   first-length : length (take n ws) ≡ n
   first-length = length-take-le n ws (listed-within s)
 
-  first-key : (i : ℕ) → i < n → keyAt (take n ws) i ≡ keyAt ws i
-  first-key i l = ap (λ (x : ℕ). key (prefixOf x)) (getD-take n ws i 0 l)
+  first-prefix : (i : ℕ) → i < n → prefixAt (take n ws) i ≡ prefixAt ws i
+  first-prefix i l = ap prefixOf (getD-take n ws i 0 l)
 
   first-take : take at (take n ws) ≡ take at ws
   first-take = take-take at n ws (q .position .within)
 
-  first-below : (i : ℕ) → i < at → keyAt (take n ws) i < key p
-  first-below i l = omega (arith, q .position .within, first-key i (omega (arith, q .position .within)), below s w q i l)
+  first-below : (i : ℕ) → i < at → Before (prefixAt (take n ws) i) p
+  first-below i l =
+      subst (λ (x : Prefix). Before x p) (sym (first-prefix i (omega (arith, q .position .within)))) (below s w q i l)
 
   module _ (h : ℕ) where
     pub put-new : found ≡ false → n < length ws → insertedAt ws n at (wordOf (routeBy p h)) ≡ wordsOf (length ws) (with-route (routeBy p h) (routes ws))
@@ -90,7 +85,7 @@ module _ {ws : List ℕ} {n : ℕ} {p : Prefix} {at : ℕ} {found : Bool} (s : L
         let words : map wordOf (with-route r (routes ws)) ≡ take at ws ++ wordOf r ∷ slice at n ws =
         ap (λ (rs : List Route). map wordOf (with-route r rs)) (routes-first s)
         ∙ with-new r (take n ws) at (omega (arith, first-length)) first-below
-        (λ i l m. omega (arith, first-length, first-key i (omega (arith, first-length)), above s w q y i l (omega (arith, first-length))))
+        (λ i l m. let b : i < n = omega (arith, first-length) in subst (Before p) (sym (first-prefix i b)) (above s w q y i l b))
         ∙ ap (λ (xs : List ℕ). xs ++ wordOf r ∷ slice at n ws) first-take in
         let size : length (take at ws ++ wordOf r ∷ slice at n ws) ≡ suc n =
         simp (length-append, length-take-le at ws (omega arith), length-slice at n ws (omega arith)) (omega arith) in
@@ -105,7 +100,7 @@ module _ {ws : List ℕ} {n : ℕ} {p : Prefix} {at : ℕ} {found : Bool} (s : L
         let room = listed-within s in
         let words : map wordOf (with-route r (routes ws)) ≡ take at ws ++ wordOf r ∷ slice (suc at) n ws =
         ap (λ (rs : List Route). map wordOf (with-route r rs)) (routes-first s)
-        ∙ with-same r (take n ws) at (omega (arith, here .0, first-length)) first-below (first-key at (here .0) ∙ here .1)
+        ∙ with-same r (take n ws) at (omega (arith, here .0, first-length)) first-below (first-prefix at (here .0) ∙ here .1)
         ∙ ap (λ (xs : List ℕ). xs ++ wordOf r ∷ slice (suc at) n ws) first-take in
         let size : length (take at ws ++ wordOf r ∷ slice (suc at) n ws) ≡ n =
         simp (length-append, length-take-le at ws (omega (arith, here .0)), length-slice (suc at) n ws room) (omega (arith, here .0)) in
@@ -122,8 +117,8 @@ module _ {ws : List ℕ} {n : ℕ} {p : Prefix} {at : ℕ} {found : Bool} (s : L
       let room = listed-within s in
       let words : map wordOf (without p (routes ws)) ≡ take at ws ++ slice (suc at) n ws =
       ap (λ (rs : List Route). map wordOf (without p rs)) (routes-first s)
-      ∙ without-one p (take n ws) at (omega (arith, here .0, first-length)) (first-key at (here .0) ∙ here .1)
-      (λ i l e. let b : i < n = omega (arith, first-length) in only s w q i b (sym (first-key i b) ∙ e))
+      ∙ without-one p (take n ws) at (omega (arith, here .0, first-length)) (first-prefix at (here .0) ∙ here .1)
+      (λ i l e. let b : i < n = omega (arith, first-length) in only s w q i b (sym (first-prefix i b) ∙ e))
       ∙ ap (λ (xs : List ℕ). xs ++ slice (suc at) n ws) first-take in
       let size : length (take at ws ++ slice (suc at) n ws) ≡ n - 1 =
       simp (length-append, length-take-le at ws (omega (arith, here .0)), length-slice (suc at) n ws room) (omega (arith, here .0)) in

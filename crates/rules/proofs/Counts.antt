@@ -13,9 +13,11 @@ use Rattle.ground.proofs.Cases.{by-lt}
 use Rattle.ground.proofs.Tests.{Decides, leb?, and?, iff?, says, same-test}
 use Rattle.ground.proofs.Members.{mem-index, index-mem}
 use Rattle.prefix.specs.declared.Prefix.{Prefix}
-use Rattle.rules.specs.Words.{prefixOf, wordKey, isRule, IsRule}
-use Rattle.rules.specs.Rules.{live, every, formed, Formed, InOrder, CountIs, FormIs}
-use Rattle.rules.proofs.Words.{some-word, word-key, key-less, isRule?}
+use Rattle.rules.specs.Words.{prefixOf, isRule, IsRule}
+use Rattle.rules.specs.Rules.{live, every, formed, Formed}
+use Rattle.rules.specs.inner.Places.{keyAt}
+use Rattle.rules.specs.inner.Form.{InOrder, CountIs, FormIs}
+use Rattle.rules.proofs.Words.{some-word, word-order, isRule?}
 use Rattle.rules.proofs.LiveWords.{live-at, live-first, live-within}
 use Rattle.rules.proofs.Indices.{rise-routes, listed-order}
 use Rattle.rules.proofs.FormTests.{ZeroFrom, zeros?, formed?, formed-listed}
@@ -24,8 +26,8 @@ use Rattle.rules.proofs.FormTests.{ZeroFrom, zeros?, formed?, formed-li
 
 pub record Counted (t : Prefix) (ws : List ℕ) (i low : ℕ) : Type 0 where
   pub in-order : InOrder t ws i
-  pub above : (k : ℕ) → k < i → wordKey (getD ws k 0) < low
-  pub least : (x : ℕ) → x < low → (j : ℕ) × (j < i) × (x ≤ wordKey (getD ws j 0))
+  pub above : (k : ℕ) → k < i → keyAt ws k < low
+  pub least : (x : ℕ) → x < low → (j : ℕ) × (j < i) × (x ≤ keyAt ws j)
 
 pub counted-none : (t : Prefix) (ws : List ℕ) → Counted t ws 0 0
 counted-none t ws = record {
@@ -36,30 +38,30 @@ counted-none t ws = record {
 
 module _ {t : Prefix} {ws : List ℕ} {i low : ℕ} (c : Counted t ws i low) where
   -- what `is_next` answers of the word at i
-  pub next? : Decides ((low ≤ wordKey (getD ws i 0)) × (IsRule t (getD ws i 0))) (leb low (wordKey (getD ws i 0)) && isRule t (getD ws i 0))
-  next? = and? (leb? low (wordKey (getD ws i 0))) (isRule? t (getD ws i 0))
+  pub next? : Decides ((low ≤ keyAt ws i) × (IsRule t (getD ws i 0))) (leb low (keyAt ws i) && isRule t (getD ws i 0))
+  next? = and? (leb? low (keyAt ws i)) (isRule? t (getD ws i 0))
 
-  pub counted-more : {x : ℕ} → i < length ws → (low ≤ wordKey (getD ws i 0)) × (IsRule t (getD ws i 0)) → x ≡ wordKey (getD ws i 0) + 1 → Counted t ws (i + 1) x
+  pub counted-more : {x : ℕ} → i < length ws → (low ≤ keyAt ws i) × (IsRule t (getD ws i 0)) → x ≡ keyAt ws i + 1 → Counted t ws (i + 1) x
   counted-more {x} l h e = record {
     in-order = record {
       within = omega arith;
       rules = below-more (λ (k : ℕ). IsRule t (getD ws k 0)) i (c .in-order .rules) (h .1);
       order = λ p q pq ql.
-          below-more (λ (q : ℕ). p < q → wordKey (getD ws p 0) < wordKey (getD ws q 0)) i
+          below-more (λ (q : ℕ). p < q → keyAt ws p < keyAt ws q) i
           (λ q ql pq. c .in-order .order p q pq ql)
           (λ pq. omega (arith, c .above p pq, h .0)) q ql pq;
     };
-    above = below-more (λ (k : ℕ). wordKey (getD ws k 0) < x) i (λ k l. omega (arith, c .above k l, h .0)) (omega arith);
+    above = below-more (λ (k : ℕ). keyAt ws k < x) i (λ k l. omega (arith, c .above k l, h .0)) (omega arith);
     least = λ y l. (i, omega arith, omega arith);
   }
 
   -- the word at i is no rule, or its key is not above those before
-  pub counted-stop : ((low ≤ wordKey (getD ws i 0)) × (IsRule t (getD ws i 0)) → ⊥) → CountIs t ws i
+  pub counted-stop : ((low ≤ keyAt ws i) × (IsRule t (getD ws i 0)) → ⊥) → CountIs t ws i
   counted-stop n = record {
     in-order = c .in-order;
     most = λ o.
-        by-lt (wordKey (getD ws i 0)) low
-        (λ h. let w = c .least (wordKey (getD ws i 0)) h in omega (arith, w .2, o .order (w .0) i (w .1) (omega arith)))
+        by-lt (keyAt ws i) low
+        (λ h. let w = c .least (keyAt ws i) h in omega (arith, w .2, o .order (w .0) i (w .1) (omega arith)))
         (λ h. n (h, o .rules i (omega arith)));
   }
 
@@ -85,10 +87,9 @@ module _ {t : Prefix} {ws : List ℕ} {n : ℕ} (c : CountIs t ws n) where
             let i = mem-index 0 (live ws) m in
             subst (IsRule t) (sym (live-at ws (i .0) (i .1)) ∙ i .2) (c .in-order .rules (i .0) (omega (arith, i .1)));
         order = rise-routes ws (λ i j l h.
-            let v = c .in-order .rules i (omega arith) .route .formed .short in
-            let w = c .in-order .rules j (omega arith) .route .formed .short in
-            let less = c .in-order .order i j l (omega arith) in
-            key-less (prefixOf (getD ws i 0)) (prefixOf (getD ws j 0)) v w .0 (omega (arith, word-key (getD ws i 0), word-key (getD ws j 0))));
+            let short : (k : ℕ) → k < n → prefixOf (getD ws k 0) .length ≤ 32 = λ k h. c .in-order .rules k h .route .formed .short in
+            word-order (prefixOf (getD ws i 0)) (prefixOf (getD ws j 0)) (short i (omega arith)) (short j (omega arith)) .0
+            (c .in-order .order i j l (omega arith)));
         rest = λ i l. z i (omega arith);
       }
 

@@ -1,7 +1,7 @@
 -- What the test of the form decides, part by part, and that words of the form are a list of routes. Assumes nothing.
 use mathlib.Core.Path.{_≡_, refl, sym, ap, subst, _∙_}
 use mathlib.Core.Bool.{Bool, true, false}
-use mathlib.Core.List.{List, [], _∷_, map, List·Memᴰ as Mem, List·Memᴰ·head as here, List·Memᴰ·tail as there, List·Memᴰ·not-nil, Memᴰ·of-map}
+use mathlib.Core.List.{List, [], _∷_, map, List·Memᴰ as Mem, List·Memᴰ·head as here, List·Memᴰ·tail as there, List·Memᴰ·not-nil, Memᴰ·map, Memᴰ·of-map}
 use Prim.Native.Nat.{ℕ, _+_, _-_, _≤_, _<_}
 use native.Mathlib.Numerals.{add-one}
 use native.Mathlib.Omega.{arith}
@@ -10,13 +10,15 @@ use lib.ListN.{length, getD, drop, length-drop, drop-of-length-le, List·getD-eq
 use lib.Seq.{drop-cons, getD-drop}
 use borrow.Author.Tests.{ne-eqb}
 use Rattle.ground.proofs.Cases.{by-lt}
-use Rattle.ground.proofs.Tests.{Decides, holds, eqb?, ltb?, and?, iff?}
+use Rattle.ground.proofs.Tests.{Decides, holds, eqb?, and?, iff?}
 use Rattle.ground.proofs.Members.{mem-index, index-mem}
 use Rattle.prefix.specs.declared.Prefix.{Prefix}
-use Rattle.prefix.specs.Prefixes.{key}
+use Rattle.prefix.specs.Prefixes.{before, Before}
 use Rattle.prefix.specs.Routes.{Route, IsRoute, Ascending}
+use Rattle.prefix.proofs.Order.{before?}
 use Rattle.rules.specs.Words.{prefixOf, routeOf, isRule, IsRule}
-use Rattle.rules.specs.Rules.{live, routes, every, before, ascending, formed, Formed, Listed}
+use Rattle.rules.specs.Rules.{live, routes, every, ascending, formed, Formed}
+use Rattle.rules.specs.inner.Places.{Listed}
 use Rattle.rules.proofs.Words.{isRule?}
 
 -- ---- a test of every word
@@ -66,32 +68,18 @@ module _ (ws : List ℕ) (i : ℕ) where
   unfolding every
   zeros-end l = rw (drop-of-length-le ws)
 
--- ---- the order, by neighbours
-
-abbrev Before : ℕ → List ℕ → Type 0
-Before w [] = Unit {0}
-Before w (v ∷ vs) = key (prefixOf w) < key (prefixOf v)
-
-before? : (w : ℕ) (ws : List ℕ) → Decides (Before w ws) (before w ws)
-unfolding before
-before? w [] = holds tt
-before? w (v ∷ vs) = ltb? (key (prefixOf w)) (key (prefixOf v))
-
--- a word before the first is before all
-before-all : (w : ℕ) (vs : List ℕ) → Before w vs → Ascending (map routeOf vs) → (s : Route) → Mem s (map routeOf vs) → key (prefixOf w) < key (s .prefix)
-before-all w [] b o s m = absurd (List·Memᴰ·not-nil m)
-before-all w (v ∷ vs) b o s (here e) = subst (λ (r : Route). key (prefixOf w) < key (r .prefix)) (sym e) b
-before-all w (v ∷ vs) b o s (there m) = let h = o .0 s m in omega arith
-
-all-before : (w : ℕ) (vs : List ℕ) → ((s : Route) → Mem s (map routeOf vs) → key (prefixOf w) < key (s .prefix)) → Before w vs
-all-before w [] h = tt
-all-before w (v ∷ vs) h = h (routeOf v) (here refl)
+-- ---- the order
 
 pub ascending? : (ws : List ℕ) → Decides (Ascending (map routeOf ws)) (ascending ws)
 unfolding ascending
 ascending? [] = holds tt
 ascending? (w ∷ ws) =
-    iff? (and? (before? w ws) (ascending? ws)) (λ h. (before-all w ws (h .0) (h .1), h .1)) (λ o. (all-before w ws (o .0), o .1))
+    iff? (and? (every? (λ v. Before (prefixOf w) (prefixOf v)) _ (λ v. before? (prefixOf w) (prefixOf v)) ws) (ascending? ws))
+    (λ h. (
+      λ s m. let v = Memᴰ·of-map routeOf ws m in subst (λ (r : Route). Before (prefixOf w) (r .prefix)) (v .2) (h .0 (v .0) (v .1)),
+      h .1,
+    ))
+    (λ o. (λ v m. o .0 (routeOf v) (Memᴰ·map routeOf m), o .1))
 
 -- ---- the form
 

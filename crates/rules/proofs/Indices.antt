@@ -5,15 +5,16 @@ use mathlib.Core.List.{List, [], _∷_, map, List·Memᴰ as Mem, List·Memᴰ·
 use Prim.Native.Nat.{ℕ, zero, suc, _≤_, _<_}
 use native.Mathlib.Omega.{arith}
 use lib.ListN.{length, getD}
-use Rattle.ground.proofs.Tests.{Decides, fails, eqb?, or?, iff?}
+use Rattle.ground.proofs.Tests.{Decides, fails, or?, iff?}
 use Rattle.ground.proofs.Members.{mem-index, index-mem}
 use Rattle.prefix.specs.declared.Prefix.{Prefix}
-use Rattle.prefix.specs.Prefixes.{key, WellFormed}
-use Rattle.prefix.specs.Routes.{Route, IsRoute, AllRoutes, Ascending}
-use Rattle.prefix.proofs.Prefixes.{same-key}
-use Rattle.rules.specs.Words.{prefixOf, routeOf, wordKey}
-use Rattle.rules.specs.Rules.{live, routes, isLive, Listed}
-use Rattle.rules.proofs.Words.{word-key, key-less}
+use Rattle.prefix.specs.Prefixes.{Before}
+use Rattle.prefix.specs.Routes.{Route, IsRoute, Ascending}
+use Rattle.prefix.proofs.Order.{samePrefix?}
+use Rattle.rules.specs.Words.{prefixOf, routeOf}
+use Rattle.rules.specs.Rules.{live, routes, isLive}
+use Rattle.rules.specs.inner.Places.{Listed, keyAt}
+use Rattle.rules.proofs.Words.{word-order}
 use Rattle.rules.proofs.LiveWords.{live-at, live-within}
 
 -- ---- members
@@ -32,9 +33,9 @@ index-routes ws i h e =
 
 -- ---- order
 
--- the keys of a list of words ascend with the index
+-- the prefixes of a list of words ascend with the index
 abbrev pub Rising : List ℕ → ℕ → Type 0
-Rising ws n = (i j : ℕ) → i < j → j < n → key (prefixOf (getD ws i 0)) < key (prefixOf (getD ws j 0))
+Rising ws n = (i j : ℕ) → i < j → j < n → Before (prefixOf (getD ws i 0)) (prefixOf (getD ws j 0))
 
 ascending-rises : (vs : List ℕ) → Ascending (map routeOf vs) → Rising vs (length vs)
 ascending-rises [] o i j l h = absurd (omega arith)
@@ -46,11 +47,11 @@ rises-ascending : (vs : List ℕ) → Rising vs (length vs) → Ascending (map r
 rises-ascending [] o = tt
 rises-ascending (v ∷ vs) o = (first, rises-ascending vs (λ i j l h. o (suc i) (suc j) (omega arith) (omega arith)))
   where
-    first : (s : Route) → Mem s (map routeOf vs) → key (prefixOf v) < key (s .prefix)
+    first : (s : Route) → Mem s (map routeOf vs) → Before (prefixOf v) (s .prefix)
     first s m =
         let w = Memᴰ·of-map routeOf vs m in
         let j = mem-index 0 vs (w .1) in
-        subst (λ (r : Route). key (prefixOf v) < key (r .prefix)) (ap routeOf (j .2) ∙ w .2)
+        subst (λ (r : Route). Before (prefixOf v) (r .prefix)) (ap routeOf (j .2) ∙ w .2)
         (o 0 (suc (j .0)) (omega arith) (omega (arith, j .1)))
 
 pub routes-rise : (ws : List ℕ) → Ascending (routes ws) → Rising ws (length (live ws))
@@ -73,29 +74,28 @@ module _ {ws : List ℕ} {n : ℕ} (l : Listed ws n) where
   pub listed-route : (i : ℕ) → i < n → IsRoute (routeOf (getD ws i 0))
   listed-route i h = l .all (routeOf (getD ws i 0)) (index-routes ws i (omega arith) refl)
 
-  pub listed-order : (i j : ℕ) → i < j → j < n → wordKey (getD ws i 0) < wordKey (getD ws j 0)
+  pub listed-short : (i : ℕ) → i < n → prefixOf (getD ws i 0) .length ≤ 32
+  listed-short i h = listed-route i h .formed .short
+
+  pub listed-order : (i j : ℕ) → i < j → j < n → keyAt ws i < keyAt ws j
   listed-order i j ij h =
-      let v = listed-route i (omega arith) in
-      let w = listed-route j h in
-      let less = key-less (prefixOf (getD ws i 0)) (prefixOf (getD ws j 0)) (v .formed .short) (w .formed .short) .1
-      (routes-rise ws (l .order) i j ij (omega arith)) in
-      omega (arith, word-key (getD ws i 0), word-key (getD ws j 0))
+      word-order (prefixOf (getD ws i 0)) (prefixOf (getD ws j 0)) (listed-short i (omega arith)) (listed-short j h) .1
+      (routes-rise ws (l .order) i j ij (omega arith))
 
 -- ---- a live prefix
 
 abbrev pub IsLive : Prefix → List Route → Type 0
 IsLive p rs = (r : Route) × (Mem r rs) × (r .prefix ≡ p)
 
-pub isLive? : (p : Prefix) (rs : List Route) → AllRoutes rs → WellFormed p → Decides (IsLive p rs) (isLive p rs)
+pub isLive? : (p : Prefix) (rs : List Route) → Decides (IsLive p rs) (isLive p rs)
 unfolding isLive
-isLive? p [] all w = fails (λ h. List·Memᴰ·not-nil (h .1))
-isLive? p (r ∷ rs) all w =
-    iff? (or? (eqb? (key (r .prefix)) (key p)) (isLive? p rs (λ s m. all s (there m)) w)) to (λ h. from (h .0) (h .1) (h .2))
+isLive? p [] = fails (λ h. List·Memᴰ·not-nil (h .1))
+isLive? p (r ∷ rs) = iff? (or? (samePrefix? (r .prefix) p) (isLive? p rs)) to (λ h. from (h .0) (h .1) (h .2))
   where
-    to : (key (r .prefix) ≡ key p) ⊎ IsLive p rs → IsLive p (r ∷ rs)
-    to (inl e) = (r, here refl, same-key (all r (here refl) .formed) w e)
+    to : (r .prefix ≡ p) ⊎ IsLive p rs → IsLive p (r ∷ rs)
+    to (inl e) = (r, here refl, e)
     to (inr h) = (h .0, there (h .1), h .2)
 
-    from : (s : Route) → Mem s (r ∷ rs) → s .prefix ≡ p → (key (r .prefix) ≡ key p) ⊎ IsLive p rs
-    from s (here e) q = inl (ap (λ (x : Route). key (x .prefix)) (sym e) ∙ ap key q)
+    from : (s : Route) → Mem s (r ∷ rs) → s .prefix ≡ p → (r .prefix ≡ p) ⊎ IsLive p rs
+    from s (here e) q = inl (ap (λ (x : Route). x .prefix) (sym e) ∙ q)
     from s (there m) q = inr (s, m, q)

@@ -1,19 +1,18 @@
--- The words of a list of routes, with 0 after them: they have the form, `routes` gives the list back, and every list of words that was
--- tested is the list of the words of its routes. Assumes nothing.
+-- The words of a list of routes, with 0 after them: they have the form, and `routes` gives the list back. Assumes nothing.
 use mathlib.Core.Path.{_≡_, refl, sym, ap, ap₂, subst, _∙_}
 use mathlib.Core.List.{List, [], _∷_, _++_, map, List·Memᴰ as Mem, List·Memᴰ·head as here, List·Memᴰ·tail as there, Memᴰ·of-map}
 use Prim.Native.Nat.{ℕ, zero, suc, _+_, _-_, _≤_}
 use native.Mathlib.Omega.{arith}
-use lib.ListN.{length, getD, drop, replicate, length-append, length-map, length-drop, length-replicate, take-append-drop}
+use lib.ListN.{length, getD, drop, replicate, length-append, length-map, length-drop, length-replicate}
 use lib.Seq.{getD-drop, ext-getD}
 use Rattle.prefix.specs.declared.Prefix.{Prefix}
 use Rattle.prefix.specs.Prefixes.{Encloses}
 use Rattle.prefix.specs.Routes.{Route, IsRoute, AllRoutes, Ascending}
 use Rattle.rules.specs.Words.{routeOf, wordOf, IsRule}
-use Rattle.rules.specs.Rules.{live, routes, wordsOf, Formed, Listed}
+use Rattle.rules.specs.Rules.{live, routes, wordsOf, Formed}
 use Rattle.rules.proofs.Words.{word-route, route-word, some-route}
-use Rattle.rules.proofs.LiveWords.{live-some, live-none, live-take}
-use Rattle.rules.proofs.FormTests.{ZeroFrom, formed-listed}
+use Rattle.rules.proofs.LiveWords.{live-some, live-none}
+use Rattle.rules.proofs.FormTests.{ZeroFrom}
 
 -- ---- words and routes, list by list
 
@@ -73,13 +72,3 @@ pub zeros-drop : (ws : List ℕ) (n : ℕ) → ZeroFrom ws n → drop n ws ≡ r
 zeros-drop ws n z =
     ext-getD 0 (drop n ws) (replicate (length ws - n) 0) (length-drop n ws ∙ sym (length-replicate (length ws - n) 0))
     (λ i h. getD-drop n ws i 0 ∙ z (n + i) (omega arith) ∙ sym (getD-zeros (length ws - n) i))
-
-pub listed-words : {ws : List ℕ} {n : ℕ} → Listed ws n → wordsOf (length ws) (routes ws) ≡ ws
-unfolding wordsOf routes
-listed-words {ws} {n} l =
-    ap₂ _++_ (word-routes (live ws)) (ap (λ (k : ℕ). replicate (length ws - k) 0) (length-map (live ws) routeOf))
-    ∙ ap₂ _++_ (live-take ws) (sym (zeros-drop ws (length (live ws)) (λ i h. l .rest i (omega (arith, l .count)))))
-    ∙ take-append-drop (length (live ws)) ws
-
-pub formed-words : {t : Prefix} {ws : List ℕ} → Formed t ws → wordsOf (length ws) (routes ws) ≡ ws
-formed-words f = listed-words (formed-listed f)

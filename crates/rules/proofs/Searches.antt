@@ -12,18 +12,19 @@ use Rattle.ground.proofs.Tests.{eqb?, iff?, stops, same-test}
 use Rattle.prefix.specs.declared.Prefix.{Prefix}
 use Rattle.prefix.specs.Prefixes.{WellFormed}
 use Rattle.prefix.specs.Routes.{Route}
-use Rattle.rules.specs.Words.{prefixOf, routeOf, wordKey, keyOf}
-use Rattle.rules.specs.Rules.{live, routes, Listed, PositionIs, PlaceIs}
-use Rattle.rules.proofs.Words.{word-key, key-same}
-use Rattle.rules.proofs.Indices.{routes-index, index-routes, listed-route, listed-order, IsLive, isLive?}
+use Rattle.rules.specs.Words.{prefixOf, routeOf, keyOf}
+use Rattle.rules.specs.Rules.{routes}
+use Rattle.rules.specs.inner.Places.{Listed, keyAt, PositionIs, PlaceIs}
+use Rattle.rules.proofs.Words.{key-same}
+use Rattle.rules.proofs.Indices.{routes-index, index-routes, listed-short, listed-order, IsLive, isLive?}
 
 -- ---- low and high bracket the answer
 
 pub record Bracket (ws : List ℕ) (n k low high : ℕ) : Type 0 where
   pub low-le : low ≤ high
   pub high-le : high ≤ n
-  pub below : (i : ℕ) → i < low → wordKey (getD ws i 0) < k
-  pub above : (i : ℕ) → high ≤ i → i < n → k ≤ wordKey (getD ws i 0)
+  pub below : (i : ℕ) → i < low → keyAt ws i < k
+  pub above : (i : ℕ) → high ≤ i → i < n → k ≤ keyAt ws i
 
 pub bracket-start : (ws : List ℕ) (n k : ℕ) → Bracket ws n k 0 n
 bracket-start ws n k = record {
@@ -34,21 +35,21 @@ bracket-start ws n k = record {
 }
 
 module _ {ws : List ℕ} {n k low high : ℕ} (s : Listed ws n) (b : Bracket ws n k low high) (m : ℕ) (lm : low ≤ m) (mh : m < high) where
-  pub bracket-up : wordKey (getD ws m 0) < k → Bracket ws n k (m + 1) high
+  pub bracket-up : keyAt ws m < k → Bracket ws n k (m + 1) high
   bracket-up h = record {
     low-le = omega arith;
     high-le = b .high-le;
-    below = below-more (λ (i : ℕ). wordKey (getD ws i 0) < k) m (λ i l. omega (arith, listed-order s i m l (omega arith))) h;
+    below = below-more (λ (i : ℕ). keyAt ws i < k) m (λ i l. omega (arith, listed-order s i m l (omega arith))) h;
     above = b .above;
   }
 
-  pub bracket-down : k ≤ wordKey (getD ws m 0) → Bracket ws n k low m
+  pub bracket-down : k ≤ keyAt ws m → Bracket ws n k low m
   bracket-down h = record {
     low-le = lm;
     high-le = omega arith;
     below = b .below;
     above = λ i l il.
-        by-lt m i (λ mi. omega (arith, listed-order s m i mi il)) (λ im. subst (λ (x : ℕ). k ≤ wordKey (getD ws x 0)) (omega arith) h);
+        by-lt m i (λ mi. omega (arith, listed-order s m i mi il)) (λ im. subst (λ (x : ℕ). k ≤ keyAt ws x) (omega arith) h);
   }
 
 pub bracket-met : {ws : List ℕ} {n k low high : ℕ} → Bracket ws n k low high → high ≤ low → PositionIs ws n k low
@@ -62,23 +63,23 @@ bracket-met b h = record {
 
 module _ {ws : List ℕ} {n : ℕ} {p : Prefix} {at : ℕ} (s : Listed ws n) (w : WellFormed p) (q : PositionIs ws n (keyOf p) at) where
   -- a word is of the prefix exactly if it has its key
-  pub key-prefix : (i : ℕ) → i < n → wordKey (getD ws i 0) ≡ keyOf p → prefixOf (getD ws i 0) ≡ p
+  pub key-prefix : (i : ℕ) → i < n → keyAt ws i ≡ keyOf p → prefixOf (getD ws i 0) ≡ p
   key-prefix i l e =
-      key-same (prefixOf (getD ws i 0)) p (listed-route s i l .formed .short) (w .short) .0 (sym (word-key (getD ws i 0)) ∙ e)
+      key-same (prefixOf (getD ws i 0)) p (listed-short s i l) (w .short) .0 e
 
   -- a word of the prefix is at the place
-  pub position-found : (i : ℕ) → i < n → wordKey (getD ws i 0) ≡ keyOf p → i ≡ at
+  pub position-found : (i : ℕ) → i < n → keyAt ws i ≡ keyOf p → i ≡ at
   position-found i l e =
       by-cmp i at (λ h. absurd (omega (arith, q .below i h))) (λ h. h)
       (λ h. absurd (omega (arith, listed-order s at i h l, q .above at (omega arith) (omega arith))))
 
   -- so a live prefix is at the place
-  pub live-at-place : IsLive p (routes ws) → (at < n) × (wordKey (getD ws at 0) ≡ keyOf p)
+  pub live-at-place : IsLive p (routes ws) → (at < n) × (keyAt ws at ≡ keyOf p)
   live-at-place h =
       let i = routes-index ws (h .1) in
       let l : i .0 < n = omega (arith, i .1, s .count) in
-      let e : wordKey (getD ws (i .0) 0) ≡ keyOf p = word-key (getD ws (i .0) 0) ∙ ap (λ (r : Route). keyOf (r .prefix)) (i .2) ∙ ap keyOf (h .2) in
-      subst (λ (k : ℕ). (k < n) × (wordKey (getD ws k 0) ≡ keyOf p)) (position-found (i .0) l e) (l, e)
+      let e : keyAt ws (i .0) ≡ keyOf p = ap (λ (r : Route). keyOf (r .prefix)) (i .2) ∙ ap keyOf (h .2) in
+      subst (λ (k : ℕ). (k < n) × (keyAt ws k ≡ keyOf p)) (position-found (i .0) l e) (l, e)
 
 -- ---- the place that `find` answers: k is the key of the prefix, and x that of the word at the place
 
@@ -89,13 +90,13 @@ module _ {ws : List ℕ} {n : ℕ} {p : Prefix} {k at : ℕ} (s : Listed ws n) (
   pub place-past : at ≡ n → PlaceIs ws n p at false
   place-past end = record {
     position = place-position;
-    live = sym (stops (isLive? p (routes ws) (s .all) w) (λ h. omega (arith, live-at-place s w place-position h .0)));
+    live = sym (stops (isLive? p (routes ws)) (λ h. omega (arith, live-at-place s w place-position h .0)));
   }
 
-  pub place-within : (x : ℕ) → at < n → x ≡ wordKey (getD ws at 0) → PlaceIs ws n p at (eqb x k)
+  pub place-within : (x : ℕ) → at < n → x ≡ keyAt ws at → PlaceIs ws n p at (eqb x k)
   place-within x l f = record {
     position = place-position;
-    live = ap₂ eqb f e ∙ same-test (eqb? (wordKey (getD ws at 0)) (keyOf p))
-        (iff? (isLive? p (routes ws) (s .all) w) (λ h. live-at-place s w place-position h .1)
+    live = ap₂ eqb f e ∙ same-test (eqb? (keyAt ws at) (keyOf p))
+        (iff? (isLive? p (routes ws)) (λ h. live-at-place s w place-position h .1)
         (λ same. (routeOf (getD ws at 0), index-routes ws at (omega (arith, s .count)) refl, key-prefix s w place-position at l same)));
   }

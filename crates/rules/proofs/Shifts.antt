@@ -6,7 +6,7 @@ use native.Mathlib.Nat.{le-refl}
 use native.Mathlib.Omega.{arith}
 use lib.ListN.{length, getD, set, take, drop, length-append, length-set, take-append-drop, List·getD-append}
 use lib.Seq.{length-take-le, getD-take, getD-drop, getD-append-add, drop-cons, drop-append-le, append-snoc, set-append-left, set-at, take-suc, take-set-lt, take-suc-set, slice, slice-empty, slice-cons, length-slice}
-use Rattle.rules.specs.Rules.{insertedAt, removedAt}
+use Rattle.rules.specs.inner.Places.{insertedAt, removedAt}
 
 -- ---- up by one: the words from i to n have moved, and those up to i are as they were
 

@@ -5,8 +5,9 @@ ghost use Prim.Native.Nat.{_≤_};
 ghost use lib.Dec.{leb, eqb};
 ghost use lib.ListN.{length, drop};
 ghost use Rattle.prefix.specs.Geometry.{Territory};
-ghost use Rattle.rules.specs.Words.{wordKey, isRule};
-ghost use Rattle.rules.specs.Rules.{every, CountIs, FormIs};
+ghost use Rattle.rules.specs.Words.{prefixOf, keyOf, isRule};
+ghost use Rattle.rules.specs.Rules.{every};
+ghost use Rattle.rules.specs.inner.Form.{CountIs, FormIs};
 use crate::word::Rule;
 use prefix::Prefix;
 
@@ -19,7 +20,7 @@ pub struct Form {
 // Whether the word is a rule of the territory and its key is at least `low`.
 fn is_next(word: u64, low: u64, territory: Prefix) -> bool
     requires { ⌜ Territory territory ⌝ }
-    ensures { λ r. ⌜ r ≡ leb low (wordKey word) && isRule territory word ⌝ }
+    ensures { λ r. ⌜ r ≡ leb low (keyOf (prefixOf word)) && isRule territory word ⌝ }
 {
     if Rule::key(word) < low {
         return false;

@@ -6,7 +6,8 @@ ghost use lib.ListN.{length};
 ghost use Rattle.prefix.specs.Prefixes.{WellFormed};
 ghost use Rattle.prefix.specs.Routes.{IsRoute, with-route, without};
 ghost use Rattle.rules.specs.Words.{routeBy};
-ghost use Rattle.rules.specs.Rules.{routes, wordsOf, Listed, PositionIs, PlaceIs, insertedAt, removedAt};
+ghost use Rattle.rules.specs.Rules.{routes, wordsOf};
+ghost use Rattle.rules.specs.inner.Places.{Listed, PositionIs, PlaceIs, insertedAt, removedAt};
 use crate::word::Rule;
 use prefix::Prefix;
 

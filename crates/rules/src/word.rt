@@ -1,8 +1,10 @@
-// One rule word: only this file knows the layout.
+// One rule word: of the code, only this file knows the layout.
 ghost use mathlib.Core.Path.{_≡_};
-ghost use Prim.Native.Nat.{_<_};
+ghost use Prim.Native.Nat.{_≤_};
 ghost use Rattle.prefix.specs.Geometry.{Territory};
-ghost use Rattle.rules.specs.Words.{prefixOf, routeOf, routeBy, wordOf, wordKey, keyOf, isRule};
+ghost use Rattle.prefix.specs.Routes.{IsRoute};
+ghost use Rattle.rules.specs.Words.{prefixOf, routeOf, routeBy, wordOf, keyOf, isRule};
+use prefix::LAST_HOP;
 use prefix::Prefix;
 use prefix::cleared;
 
@@ -14,12 +16,10 @@ impl Rule {
     const LENGTH: u64 = 0x1_0000;
 
     const ADDRESS: u64 = 0x1_0000_0000;
-    // A hop is at most this, and at least 1.
-    const LAST_HOP: u32 = 32767;
 
     // The word of a prefix and a hop.
     pub fn pack(prefix: Prefix, hop: u32) -> u64
-        requires { ⌜ (prefix .length < 65536) × (hop < 65536) ⌝ }
+        requires { ⌜ IsRoute (routeBy prefix hop) ⌝ }
         ensures { λ r. ⌜ r ≡ wordOf (routeBy prefix hop) ⌝ }
     {
         prefix.address as u64 * Rule::ADDRESS + prefix.length as u64 * Rule::LENGTH + hop as u64
@@ -52,16 +52,16 @@ impl Rule {
         }
     }
 
-    // The number by which words are in order: address * 2^16 + length.
+    // The number by which words are in order: what stands before the hop.
     pub fn key(word: u64) -> u64
-        ensures { λ r. ⌜ r ≡ wordKey word ⌝ }
+        ensures { λ r. ⌜ r ≡ keyOf (prefixOf word) ⌝ }
     {
         word / Rule::LENGTH
     }
 
     // The same number of a prefix.
     pub fn key_of(prefix: Prefix) -> u64
-        requires { ⌜ prefix .length < 65536 ⌝ }
+        requires { ⌜ prefix .length ≤ 32 ⌝ }
         ensures { λ r. ⌜ r ≡ keyOf prefix ⌝ }
     {
         prefix.address as u64 * Rule::LENGTH + prefix.length as u64
@@ -76,7 +76,7 @@ impl Rule {
         if hop < 1 {
             return false;
         }
-        if Rule::LAST_HOP < hop {
+        if LAST_HOP < hop {
             return false;
         }
         let length = Rule::length(word);

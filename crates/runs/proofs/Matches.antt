@@ -10,10 +10,11 @@ use native.Mathlib.Omega.{arith}
 use lib.Pow.{pow-pos}
 use Rattle.ground.proofs.Cases.{by-lt}
 use Rattle.prefix.specs.declared.Prefix.{Prefix}
-use Rattle.prefix.specs.Prefixes.{span, top, clearedOf, key, WellFormed, Contains}
+use Rattle.prefix.specs.Prefixes.{span, top, clearedOf, WellFormed, Contains}
 use Rattle.prefix.specs.Routes.{Route, AllRoutes, IsLongest}
+use Rattle.prefix.proofs.Order.{key}
 use Rattle.prefix.proofs.Prefixes.{kept, nested, own, in-range, by-range, same-prefix}
-use Rattle.runs.specs.Steps.{around}
+use Rattle.runs.specs.inner.Steps.{around}
 
 -- ---- an address's own prefix of each length
 

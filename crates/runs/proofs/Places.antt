@@ -11,19 +11,21 @@ use lib.ListN.{getD}
 use Rattle.ground.proofs.Cases.{by-lt}
 use Rattle.ground.proofs.Tests.{Decides, eqb?, or?, says, denies}
 use Rattle.prefix.specs.declared.Prefix.{Prefix}
-use Rattle.prefix.specs.Prefixes.{key, Contains}
+use Rattle.prefix.specs.Prefixes.{Contains}
 use Rattle.prefix.specs.Routes.{Route}
 use Rattle.prefix.proofs.Prefixes.{contains?}
+use Rattle.prefix.proofs.Order.{key, key-order}
 use Rattle.rules.specs.Words.{prefixOf, routeOf, keyOf}
-use Rattle.rules.specs.Rules.{routes, Listed}
-use Rattle.rules.proofs.Words.{word-key}
-use Rattle.rules.proofs.Indices.{routes-index, index-routes, routes-rise, listed-route}
-use Rattle.runs.specs.Steps.{around, lastOf, CountUpTo, settled, SharedIs, ClimbIs, NextIs}
+use Rattle.rules.specs.Rules.{routes}
+use Rattle.rules.specs.inner.Places.{Listed}
+use Rattle.rules.proofs.Words.{key-less}
+use Rattle.rules.proofs.Indices.{routes-index, index-routes, routes-rise, listed-short}
+use Rattle.runs.specs.inner.Steps.{around, lastOf, CountUpTo, settled, SharedIs, ClimbIs, NextIs}
 use Rattle.runs.proofs.Matches.{UpTo, Last, nothing, found, climbs, some-length}
 
 -- the order of words is that of (address, length)
 key-le : (p q : Prefix) → p .length ≤ 32 → q .length ≤ 32 → keyOf p ≤ keyOf q → key p ≤ key q
-key-le p q h k l = omega arith
+key-le p q h k l = by-lt (key q) (key p) (λ m. absurd (omega (arith, key-less q p k h .1 m))) (λ m. m)
 
 -- a fact of each route, by the index of its word
 each : {ws : List ℕ} {n : ℕ} (P : Route → Type 0) → Listed ws n → ((k : ℕ) → k < n → P (routeOf (getD ws k 0))) → (r : Route) → Mem r (routes ws) → P r
@@ -32,17 +34,23 @@ each {ws} {n} P s f r m = let i = routes-index ws m in subst P (i .2) (f (i .0) 
 -- a later word has no lower key
 keys-rise : {ws : List ℕ} {n : ℕ} → Listed ws n → (j k : ℕ) → j ≤ k → k < n → key (prefixOf (getD ws j 0)) ≤ key (prefixOf (getD ws k 0))
 keys-rise {ws} s j k le h =
-    let count = s .count in
-    by-lt j k (λ lt. le-of-lt (routes-rise ws (s .order) j k lt (omega arith))) (λ ge.
+    by-lt j k (λ lt.
+    le-of-lt (key-order (prefixOf (getD ws j 0)) (prefixOf (getD ws k 0)) (listed-short s j (omega arith)) (listed-short s k h) .1
+    (routes-rise ws (s .order) j k lt (omega (arith, s .count))))) (λ ge.
     let e : j ≡ k = omega arith in le-of-eq (ap (λ (i : ℕ). key (prefixOf (getD ws i 0))) e))
 
 -- ---- the last route up to a prefix
 
 module _ {ws : List ℕ} {n i : ℕ} (a l : ℕ) (s : Listed ws n) (short : l ≤ 32) (q : CountUpTo ws n l a i) where
+  past-count : (k : ℕ) → i ≤ k → k < n → key (around l a) < key (prefixOf (getD ws k 0))
+  past-count k ge h = key-less (around l a) (prefixOf (getD ws k 0)) short (listed-short s k h) .0 (omega (arith, q .above k ge h))
+
+  in-count : (k : ℕ) → k < i → key (prefixOf (getD ws k 0)) ≤ key (around l a)
+  in-count k lt =
+      key-le (prefixOf (getD ws k 0)) (around l a) (listed-short s k (omega (arith, q .within))) short (omega (arith, q .below k lt))
+
   none-up-to : i ≡ 0 → (r : Route) → Mem r (routes ws) → key (around l a) < key (r .prefix)
-  none-up-to z =
-      each (λ r. key (around l a) < key (r .prefix)) s (λ k h.
-      let f = listed-route s k h .formed .short in omega (arith, q .above k (omega arith) h, word-key (getD ws k 0)))
+  none-up-to z = each (λ r. key (around l a) < key (r .prefix)) s (λ k h. past-count k (omega arith) h)
 
   last-up-to : 0 < i → Last (routes ws) (key (around l a)) (routeOf (lastOf ws i))
   last-up-to some =
@@ -50,11 +58,10 @@ module _ {ws : List ℕ} {n i : ℕ} (a l : ℕ) (s : Listed ws n) (short : l �
       let count = s .count in
       record {
         live = index-routes ws (i - 1) (omega arith) refl;
-        low = key-le (prefixOf (lastOf ws i)) (around l a) (listed-route s (i - 1) (omega arith) .formed .short) short
-            (omega (arith, q .below (i - 1) (omega arith), word-key (lastOf ws i)));
+        low = in-count (i - 1) (omega arith);
         last = each (λ r. key (r .prefix) ≤ key (around l a) → key (r .prefix) ≤ key (prefixOf (lastOf ws i))) s (λ k h up.
             by-lt k i (λ lt. keys-rise s k (i - 1) (omega arith) (omega arith))
-            (λ ge. let f = listed-route s k h .formed .short in absurd (omega (arith, q .above k (omega arith) h, word-key (getD ws k 0)))));
+            (λ ge. absurd (omega (arith, past-count k ge h))));
       }
 
 -- ---- the next route
@@ -62,7 +69,7 @@ module _ {ws : List ℕ} {n i : ℕ} (a l : ℕ) (s : Listed ws n) (short : l �
 module _ {ws : List ℕ} {n i : ℕ} (a : ℕ) (s : Listed ws n) (q : CountUpTo ws n 32 a i) where
   -- each word that is counted starts at a or before
   counted : (k : ℕ) → k < i → prefixOf (getD ws k 0) .address ≤ a
-  counted k h = omega (arith, q .below k h, word-key (getD ws k 0))
+  counted k h = omega (arith, in-count a 32 s (le-refl 32) q k h)
 
   pub next-none : i ≡ n → a < 2 ^ 32 → NextIs (routes ws) a (2 ^ 32)
   next-none e fits =
@@ -75,7 +82,7 @@ module _ {ws : List ℕ} {n i : ℕ} (a : ℕ) (s : Listed ws n) (q : CountUpTo 
   pub next-some : {r : ℕ} → i < n → prefixOf (getD ws i 0) .address ≤ 2 ^ 32 → r ≡ prefixOf (getD ws i 0) .address → NextIs (routes ws) a r
   next-some {r} some fits e =
       record {
-        past = let f = listed-route s i some .formed .short in omega (arith, q .above i (le-refl i) some, word-key (getD ws i 0));
+        past = omega (arith, listed-short s i some, past-count a 32 s (le-refl 32) q i (le-refl i) some);
         within = omega arith;
         next = each (λ t. t .prefix .address < r → t .prefix .address ≤ a) s (λ k h low.
             by-lt k i (counted k) (λ ge. absurd (later k ge h low)));
@@ -83,9 +90,7 @@ module _ {ws : List ℕ} {n i : ℕ} (a : ℕ) (s : Listed ws n) (q : CountUpTo 
     where
       later : (k : ℕ) → i ≤ k → k < n → prefixOf (getD ws k 0) .address < r → ⊥
       later k ge h low =
-          let f = listed-route s i some .formed .short in
-          let g = listed-route s k h .formed .short in
-          omega (arith, keys-rise s i k ge h)
+          omega (arith, listed-short s i some, listed-short s k h, keys-rise s i k ge h)
 
 -- ---- the climb
 

@@ -12,8 +12,8 @@ use Rattle.prefix.proofs.Prefixes.{contains?, nested, in-range, by-range}
 use Rattle.prefix.proofs.Best.{best-none, is-best}
 use Rattle.prefix.proofs.Changes.{best-cong}
 use Rattle.cells.specs.Cells.{empty, pack, cellOf}
-use Rattle.runs.specs.Run.{RunIs}
-use Rattle.runs.specs.Steps.{NextIs, LowerIs}
+use Rattle.runs.specs.inner.Run.{RunIs}
+use Rattle.runs.specs.inner.Steps.{NextIs, LowerIs}
 
 module _ {rs : List Route} {a : ℕ} (all : AllRoutes rs) (b : ℕ) (from : a ≤ b)
     (starts : (r : Route) → Mem r rs → r .prefix .address ≤ b → r .prefix .address ≤ a) where

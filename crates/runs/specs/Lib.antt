@@ -1,3 +1,2 @@
--- What the search for the longest match answers: `Run` the whole of it, `Steps` the functions on the way.
-pub mod Run
-pub mod Steps
+-- The search for the longest match is believed by `best` alone (prefix/specs/Routes.antt); in `inner`, what its functions answer.
+pub mod inner

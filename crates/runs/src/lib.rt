@@ -1,16 +1,17 @@
 // The longest match of an address in the rule words, with the run of addresses that share it: by a search for the address itself, and a
 // step up for each rule on the way that ends before the address, so that no pass over the words is needed.
 ghost use mathlib.Core.Path.{_≡_};
-ghost use Prim.Native.Nat.{_+_, _<_, _≤_};
-ghost use lib.Dec.{eqb};
-ghost use Rattle.prefix.specs.Prefixes.{top, span};
+ghost use Prim.Native.Nat.{_<_, _≤_};
+ghost use Rattle.prefix.specs.Prefixes.{contains};
 ghost use Rattle.prefix.specs.Routes.{IsRoute};
 ghost use Rattle.rules.specs.Words.{routeOf};
-ghost use Rattle.rules.specs.Rules.{routes, Listed};
-ghost use Rattle.runs.specs.Run.{RunIs};
-ghost use Rattle.runs.specs.Steps.{CountUpTo, settled, SharedIs, ClimbIs, NextIs, LowerIs, MatchRunIs};
+ghost use Rattle.rules.specs.Rules.{routes};
+ghost use Rattle.rules.specs.inner.Places.{Listed};
+ghost use Rattle.runs.specs.inner.Run.{RunIs};
+ghost use Rattle.runs.specs.inner.Steps.{CountUpTo, settled, SharedIs, ClimbIs, NextIs, LowerIs, MatchRunIs};
 use cells::cell::Cell;
 use prefix::Prefix;
+use prefix::span_of;
 use rules::word::Rule;
 
 // How many addresses there are.
@@ -38,9 +39,13 @@ fn up_to(rules: &[u64], live: usize, address: u32, length: u32) -> usize
 // Whether the two addresses agree on their first `length` bits.
 fn agree(address: u32, other: u32, length: u32) -> bool
     requires { ⌜ length ≤ 32 ⌝ }
-    ensures { λ r. ⌜ r ≡ eqb (top length other) (top length address) ⌝ }
+    ensures { λ r. ⌜ r ≡ contains (record { address = other; length = length }) address ⌝ }
 {
-    prefix::cleared(other, length) == prefix::cleared(address, length)
+    let near = Prefix {
+        address: other,
+        length,
+    };
+    near.contains(address)
 }
 
 // How many leading bits the two addresses share, of fewer than `limit`.
@@ -65,7 +70,8 @@ fn is_settled(rules: &[u64], live: usize, address: u32, i: usize) -> bool
         return true;
     }
     let word = rules[i - 1];
-    agree(address, Rule::address(word), Rule::length(word))
+    let prefix = Rule::prefix(word);
+    prefix.contains(address)
 }
 
 // How many of the live words are up to the longest match of the address, 0 if there is none; `first` are up to the address itself. A last
@@ -106,14 +112,6 @@ fn lower(a: u64, b: u64) -> u64
     b
 }
 
-// The address past the prefix of this address and length.
-fn past(address: u32, length: u32) -> u64
-    requires { ⌜ length ≤ 32 ⌝ }
-    ensures { λ r. ⌜ r ≡ address + span length ⌝ }
-{
-    address as u64 + (1u64 << (32 - length) as u64)
-}
-
 // The run of a match: to the end of its prefix, and no further than `limit`.
 fn run_of(word: u64, limit: u64) -> Run
     requires { ⌜ IsRoute (routeOf word) ⌝ }
@@ -122,7 +120,7 @@ fn run_of(word: u64, limit: u64) -> Run
     let length = Rule::length(word);
     Run {
         cell: Cell::pack(Rule::hop(word), length),
-        end: lower(limit, past(Rule::address(word), length)),
+        end: lower(limit, Rule::address(word) as u64 + span_of(length)),
     }
 }
 

@@ -6,7 +6,7 @@ use Prim.Native.Nat.{ℕ}
 use native.Mathlib.Omega.{arith}
 use borrow.Author.Tests.{not-true, not-false}
 use Rattle.rules.proofs.Indices.{listed-within}
-use Rattle.runs.specs.Steps.{settled, SharedIs}
+use Rattle.runs.specs.inner.Steps.{settled, SharedIs}
 use Rattle.runs.proofs.Places.{Climbing, climb-start, climb-done, climb-some, climb-length, climb-more}
 use Rattle.runs.proofs.climb.Statement.{statement}
 use Rattle.runs.proofs.climb.Tie as tie

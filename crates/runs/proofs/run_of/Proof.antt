@@ -1,10 +1,12 @@
 -- `runs::run_of` meets its contract: it packs the word's hop and length, and takes the lower of two ends. Assumes nothing.
-use mathlib.Core.Path.{ap₂, subst, _∙_}
+use mathlib.Core.Path.{ap, ap₂, subst, _∙_}
 use Prim.Native.Nat.{ℕ, _+_}
+use native.Mathlib.Omega.{arith}
 use borrow.Author.Needs.{needs}
 use Rattle.prefix.specs.Prefixes.{span}
+use Rattle.prefix.proofs.Prefixes.{span-fits}
 use Rattle.cells.specs.Cells.{pack}
-use Rattle.runs.specs.Steps.{LowerIs}
+use Rattle.runs.specs.inner.Steps.{LowerIs}
 use Rattle.runs.proofs.run_of.Statement.{statement}
 use Rattle.runs.proofs.run_of.Tie as tie
 
@@ -20,8 +22,14 @@ pack-requires c κs = search needs
 address-requires : tie.Need-address-requires
 address-requires c κs = search needs
 
-past-requires : tie.Need-past-requires
-past-requires c κs = search needs
+cast-lower : tie.Need-cast-lower
+cast-lower c = search needs
+
+span-of-requires : tie.Need-span-of-requires
+span-of-requires c κs = search needs
+
+add-lower : tie.Need-add-lower
+add-lower c = omega (arith, c .span-of .ensures, span-fits (c .before .before .before .before .length .result))
 
 lower-requires : tie.Need-lower-requires
 lower-requires c κs = search needs
@@ -33,7 +41,7 @@ returns c =
     record {
       is = c .before .before .before .pack .ensures ∙ ap₂ pack (c .before .before .before .before .hop .ensures) length;
       ends = subst (λ (e : ℕ). LowerIs (s .limit) e (c .lower .result))
-          (c .before .past .ensures ∙ ap₂ (λ (b l : ℕ). b + span l) (c .before .before .address .ensures) length)
+          (ap₂ _+_ (c .before .before .address .ensures) (c .before .span-of .ensures ∙ ap span length))
           (c .lower .ensures);
     }
 
@@ -45,6 +53,8 @@ run-of-spec =
     hop-requires
     pack-requires
     address-requires
-    past-requires
+    cast-lower
+    span-of-requires
+    add-lower
     lower-requires
     returns)

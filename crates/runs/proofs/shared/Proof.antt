@@ -5,8 +5,9 @@ use Prim.Native.Nat.{ℕ, _-_, _<_}
 use native.Mathlib.Omega.{arith}
 use borrow.Author.Tests.{not-true, not-false}
 use Rattle.ground.proofs.Cases.{by-cmp, by-lt}
-use Rattle.ground.proofs.Tests.{eqb?, says, denies}
+use Rattle.ground.proofs.Tests.{says, denies}
 use Rattle.prefix.specs.Prefixes.{top}
+use Rattle.prefix.proofs.Prefixes.{contains?}
 use Rattle.runs.proofs.Matches.{top-none}
 use Rattle.runs.proofs.shared.Statement.{statement}
 use Rattle.runs.proofs.shared.Tie as tie
@@ -34,7 +35,8 @@ agree-requires : tie.Need-agree-requires Inv-loop μ-loop
 agree-requires c κs = omega arith
 
 differ : (c : tie.Then1 Inv-loop μ-loop) → let s = c .before .before .before .args in let m = c .before .before .loop .bits in ¬ (top m (s .other) ≡ top m (s .address))
-differ c = denies (eqb? _ _) (sym (c .before .agree .ensures) ∙ not-true _ (c .if1 .taken))
+differ c e =
+    denies (contains? _ _) (sym (c .before .agree .ensures) ∙ not-true _ (c .if1 .taken)) (record { agree = e })
 
 sub-bits-2 : tie.Need-sub-bits-2 Inv-loop μ-loop
 sub-bits-2 c =
@@ -53,7 +55,7 @@ loop-again c = (omega (arith, sub-bits-2 c), let s = c .before .before .before .
 returns : tie.Need-returns Inv-loop μ-loop
 returns c =
     let inv = c .before .before .loop .inv in
-    record { below = inv .0; agree = says (eqb? _ _) (sym (c .before .agree .ensures) ∙ not-false _ (c .if1 .left)); largest = inv .1 }
+    record { below = inv .0; agree = says (contains? _ _) (sym (c .before .agree .ensures) ∙ not-false _ (c .if1 .left)) .agree; largest = inv .1 }
 
 pub shared-spec : {M : Type 1} → statement M
 shared-spec =

@@ -1,10 +1,12 @@
 -- `runs::up_to` meets its contract: the words whose key is below one more than a prefix's are those up to the prefix. Assumes nothing.
-use mathlib.Core.Path.{_≡_, subst}
+use mathlib.Core.Path.{_≡_, ap, subst, _∙_}
 use mathlib.Core.List.{List}
-use Prim.Native.Nat.{ℕ}
+use Prim.Native.Nat.{ℕ, _+_}
 use native.Mathlib.Omega.{arith}
 use borrow.Author.Needs.{needs}
-use Rattle.rules.specs.Rules.{PositionIs}
+use Rattle.rules.specs.Words.{keyOf}
+use Rattle.rules.specs.inner.Places.{PositionIs}
+use Rattle.rules.proofs.Words.{key-room}
 use Rattle.runs.proofs.up_to.Statement.{statement}
 use Rattle.runs.proofs.up_to.Tie as tie
 
@@ -19,13 +21,20 @@ key-of-requires : tie.Need-key-of-requires
 key-of-requires c κs = search needs
 
 add-position : tie.Need-add-position
-add-position c = search needs
+add-position c =
+    let s = c .before .before .before in
+    let at = c .before .cleared in
+    omega (arith, c .key-of .ensures, key-room (record { address = at .result; length = s .args .length }) (s .pre .1) (omega (arith, at .ok)))
 
 position-requires : tie.Need-position-requires
 position-requires c κs = search needs
 
 returns : tie.Need-returns
-returns c = at-key (c .position .ensures) (omega (arith, c .before .key-of .ensures, c .before .before .cleared .ensures))
+returns c =
+    let l = c .before .before .before .before .args .length in
+    at-key (c .position .ensures)
+    (ap (λ (k : ℕ). k + 1) (c .before .key-of .ensures)
+    ∙ ap (λ (a : ℕ). keyOf (record { address = a; length = l }) + 1) (c .before .before .cleared .ensures))
 
 pub up-to-spec : {M : Type 1} → statement M
 up-to-spec =

@@ -1,25 +1,29 @@
--- `geometry::blocks_of` meets its contract: a shift of 1 by at most 24 loses no bit. Assumes nothing.
-use mathlib.Core.Path.{_∙_}
-use Prim.Native.Nat.{_-_, _^_}
-use native.Mathlib.Nat.{one-mul}
+-- `geometry::blocks_of` meets its contract: a prefix of length up to 24 has whole blocks. Assumes nothing.
+use mathlib.Core.Path.{_≡_}
+use Prim.Native.Nat.{_-_, _*_, _^_}
 use native.Mathlib.Omega.{arith}
-use lib.Dec.{lit<}
-use lib.Pow.{shl-exact}
+use lib.Dec.{lit≤}
 use borrow.Author.Needs.{needs}
+use Rattle.prefix.specs.Geometry.{width}
+use Rattle.prefix.specs.Prefixes.{span}
+use Rattle.prefix.proofs.Spans.{span-runs}
 use Rattle.prefix.proofs.geometry.blocks_of.Statement.{statement}
 use Rattle.prefix.proofs.geometry.blocks_of.Tie as tie
 
-sub-result : tie.Need-sub-result
-sub-result c = search needs
+span-of-requires : tie.Need-span-of-requires
+span-of-requires c κs = search needs
 
 cast-result : tie.Need-cast-result
 cast-result c = search needs
 
-shl-result : tie.Need-shl-result
-shl-result c = search needs
+div-result : tie.Need-div-result
+div-result c = search needs
 
 returns : tie.Need-returns
-returns c = let k = 24 - c .args .length in shl-exact {a = 1} 1 k 64 (lit< tt) (omega arith) ∙ one-mul (2 ^ k)
+returns c =
+    let l = c .before .args .length in
+    let whole : span l ≡ 2 ^ (width - l) * span width = span-runs width (lit≤ tt) (record { address = 0; length = l }) (c .before .pre) in
+    omega (arith, c .span-of .ensures)
 
 pub blocks-of-spec : {M : Type 1} → statement M
-blocks-of-spec = tie.close (tie.spec sub-result cast-result shl-result returns)
+blocks-of-spec = tie.close (tie.spec span-of-requires cast-result div-result returns)

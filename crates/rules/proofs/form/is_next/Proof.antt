@@ -1,7 +1,7 @@
 -- `form::is_next` meets its contract: below `low` the answer is no, and from there it is that of `is_rule`. Assumes nothing.
 use native.Mathlib.Omega.{arith}
 use borrow.Author.Tests.{le-leb, lt-leb}
-use Rattle.rules.specs.Words.{wordKey}
+use Rattle.rules.specs.Words.{prefixOf, keyOf}
 use borrow.Author.Needs.{needs}
 use Rattle.rules.proofs.form.is_next.Statement.{statement}
 use Rattle.rules.proofs.form.is_next.Tie as tie
@@ -10,13 +10,13 @@ key-requires : tie.Need-key-requires
 key-requires c κs = search needs
 
 returns : tie.Need-returns
-returns c = let s = c .before .before .args in rw (lt-leb (s .low) (wordKey (s .word)) (omega arith))
+returns c = let s = c .before .before .args in rw (lt-leb (s .low) (keyOf (prefixOf (s .word))) (omega arith))
 
 is-rule-requires : tie.Need-is-rule-requires
 is-rule-requires c κs = search needs
 
 returns-2 : tie.Need-returns-2
-returns-2 c = let s = c .before .before .before .args in rw (le-leb (s .low) (wordKey (s .word)) (omega arith)) (c .is-rule .ensures)
+returns-2 c = let s = c .before .before .before .args in rw (le-leb (s .low) (keyOf (prefixOf (s .word))) (omega arith)) (c .is-rule .ensures)
 
 pub is-next-spec : {M : Type 1} → statement M
 is-next-spec = tie.close (tie.spec key-requires returns is-rule-requires returns-2)

@@ -1,12 +1,13 @@
 -- `form::rules_in_order` meets its contract. The invariant is `Counted`: the first i words are rules in order, and `low` is just above
 -- their keys. Assumes nothing.
 use mathlib.Core.Path.{sym, _∙_}
-use Prim.Native.Nat.{_-_}
+use Prim.Native.Nat.{ℕ, _-_}
 use native.Mathlib.Omega.{arith}
-use lib.ListN.{length}
+use lib.ListN.{length, getD}
 use borrow.Author.Needs.{needs}
 use borrow.Author.Tests.{not-true, not-false}
 use Rattle.ground.proofs.Tests.{says, denies}
+use Rattle.rules.proofs.Words.{word-room}
 use Rattle.rules.proofs.Counts.{Counted, counted-none, next?, counted-more, counted-stop, counted-all}
 use Rattle.rules.proofs.form.rules_in_order.Statement.{statement}
 use Rattle.rules.proofs.form.rules_in_order.Tie as tie
@@ -38,7 +39,10 @@ key-requires : tie.Need-key-requires Inv-loop μ-loop
 key-requires c κs = search needs
 
 add-low : tie.Need-add-low Inv-loop μ-loop
-add-low c = omega (arith, c .before .before .before .shared-slice-known2 .given (c .before .before .before .before .before .loop .i))
+add-low c =
+    let at = c .before .before .before .before .before in
+    let w : ℕ = getD (at .before .before .args .rules .now) (at .loop .i) 0 in
+    omega (arith, word-room w (omega (arith, c .before .before .before .shared-slice-known2 .given (at .loop .i))))
 
 add-i : tie.Need-add-i Inv-loop μ-loop
 add-i c = search needs

@@ -5,7 +5,7 @@ use Prim.Native.Nat.{ℕ}
 use native.Mathlib.Omega.{arith}
 use lib.ListN.{set}
 use borrow.Author.Needs.{needs}
-use Rattle.rules.specs.Rules.{insertedAt}
+use Rattle.rules.specs.inner.Places.{insertedAt}
 use Rattle.rules.proofs.Indices.{listed-within}
 use Rattle.rules.proofs.Changes.{place-live, put-same, put-new}
 use Rattle.rules.proofs.list.put.Statement.{statement}

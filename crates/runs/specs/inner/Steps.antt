@@ -10,7 +10,8 @@ use Rattle.prefix.specs.Prefixes.{span, top, clearedOf, contains, Contains}
 use Rattle.prefix.specs.Routes.{Route, IsLongest}
 use Rattle.cells.specs.Cells.{pack}
 use Rattle.rules.specs.Words.{prefixOf, routeOf, keyOf}
-use Rattle.rules.specs.Rules.{routes, PositionIs}
+use Rattle.rules.specs.Rules.{routes}
+use Rattle.rules.specs.inner.Places.{PositionIs}
 
 -- the prefix of length l that contains a
 abbrev pub around : ℕ → ℕ → Prefix

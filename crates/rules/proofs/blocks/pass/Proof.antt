@@ -1,0 +1,83 @@
+-- `blocks::pass` meets its contract. The invariant is `Passing`: the rules before i have an address below the block's end, and `opened`
+-- says whether one of those that were passed is longer than 24. Assumes nothing.
+use mathlib.Core.Path.{sym, subst}
+use Prim.Native.Nat.{_+_, _-_}
+use native.Mathlib.Omega.{arith}
+use borrow.Author.Needs.{needs}
+use Rattle.rules.proofs.Indices.{listed-within}
+use Rattle.rules.proofs.Cursor.{Passing, passing-start, passing-more, passing-met}
+use Rattle.rules.proofs.blocks.pass.Statement.{statement}
+use Rattle.rules.proofs.blocks.pass.Tie as tie
+
+abbrev Inv-loop : tie.InvT-loop
+Inv-loop rules live at start i₀ opened₀ i opened = Passing rules live start at i opened
+
+abbrev μ-loop : tie.MeasureT-loop
+μ-loop rules live at start i₀ opened₀ i opened = live - i
+
+loop-holds : tie.Need-loop-holds Inv-loop μ-loop
+loop-holds c = passing-start _ _ _ _ (c .before .pre .1 .0)
+
+mul-word : tie.Need-mul-word Inv-loop μ-loop
+mul-word c = omega (arith, listed-within (c .before .before .before .pre .0))
+
+shared-slice-read-word : tie.Need-shared-slice-read-word Inv-loop μ-loop
+shared-slice-read-word c = omega (arith, listed-within (c .before .before .before .before .pre .0))
+
+cast-if1 : tie.Need-cast-if1 Inv-loop μ-loop
+cast-if1 c = search needs
+
+add-if1 : tie.Need-add-if1 Inv-loop μ-loop
+add-if1 c = search needs
+
+address-requires : tie.Need-address-requires Inv-loop μ-loop
+address-requires c κs = search needs
+
+cast-if1-2 : tie.Need-cast-if1-2 Inv-loop μ-loop
+cast-if1-2 c = search needs
+
+returns : tie.Need-returns Inv-loop μ-loop
+returns c =
+    let s = c .before .before .before .before .before .before in
+    passing-met _ _ _ _ _ _ (s .pre .0) (s .pre .1 .1 .0) (s .pre .1 .0) (c .before .before .before .before .loop .inv) (λ l. omega arith)
+
+opens-requires : tie.Need-opens-requires Inv-loop μ-loop
+opens-requires c κs = search needs
+
+add-i : tie.Need-add-i Inv-loop μ-loop
+add-i c = search needs
+
+loop-less : tie.Need-loop-less Inv-loop μ-loop
+loop-less c = search needs
+
+loop-again : tie.Need-loop-again Inv-loop μ-loop
+loop-again c =
+    let s = c .before .before .before .before .before .before .before .args in
+    let here = c .before .before .before .before .before .loop in
+    subst (Passing (s .rules .now) (s .live) (s .start) (s .at) (here .i + 1)) (sym (c .opens .ensures))
+    (passing-more (s .rules .now) (s .live) (s .start) (s .at) (here .i) (here .opened) (here .inv) (omega arith) (omega arith))
+
+returns-2 : tie.Need-returns-2 Inv-loop μ-loop
+returns-2 c =
+    let s = c .before .before .before in
+    passing-met _ _ _ _ _ _ (s .pre .0) (s .pre .1 .1 .0) (s .pre .1 .0) (c .before .loop .inv) (λ l. absurd (omega arith))
+
+pub pass-spec : {M : Type 1} → statement M
+pass-spec =
+    tie.close
+    (tie.spec
+    Inv-loop
+    μ-loop
+    loop-holds
+    mul-word
+    shared-slice-read-word
+    cast-if1
+    add-if1
+    address-requires
+    cast-if1-2
+    returns
+    opens-requires
+    add-i
+    loop-less
+    loop-again
+    returns-2)

@@ -1,0 +1,17 @@
+-- `blocks::reach` meets its contract: before the shortest prefix of the address stand the rules of lower addresses. Assumes nothing.
+use borrow.Author.Needs.{needs}
+use Rattle.rules.proofs.Cursor.{reached-from}
+use Rattle.rules.proofs.blocks.reach.Statement.{statement}
+use Rattle.rules.proofs.blocks.reach.Tie as tie
+
+key-of-requires : tie.Need-key-of-requires
+key-of-requires c κs = search needs
+
+position-requires : tie.Need-position-requires
+position-requires c κs = search needs
+
+returns : tie.Need-returns
+returns c = let s = c .before .before .before in reached-from (s .args .address) (s .pre) (c .before .key-of .ensures) (c .position .ensures)
+
+pub reach-spec : {M : Type 1} → statement M
+reach-spec = tie.close (tie.spec key-of-requires position-requires returns)

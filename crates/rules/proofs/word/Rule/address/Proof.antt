@@ -1,0 +1,14 @@
+-- `Rule::address` meets its contract, by the layout of a word. Assumes nothing.
+use borrow.Author.Needs.{needs}
+use Rattle.rules.proofs.Words.{address-is}
+use Rattle.rules.proofs.word.Rule.address.Statement.{statement}
+use Rattle.rules.proofs.word.Rule.address.Tie as tie
+
+cast-result : tie.Need-cast-result
+cast-result c = search needs
+
+returns : tie.Need-returns
+returns c = address-is (c .args .word)
+
+pub address-spec : {M : Type 1} → statement M
+address-spec = tie.close (tie.spec cast-result returns)

@@ -1,0 +1,14 @@
+-- `Rule::hop` meets its contract, by the layout of a word. Assumes nothing.
+use borrow.Author.Needs.{needs}
+use Rattle.rules.proofs.Words.{hop-is}
+use Rattle.rules.proofs.word.Rule.hop.Statement.{statement}
+use Rattle.rules.proofs.word.Rule.hop.Tie as tie
+
+cast-result : tie.Need-cast-result
+cast-result c = search needs
+
+returns : tie.Need-returns
+returns c = hop-is (c .args .word)
+
+pub hop-spec : {M : Type 1} → statement M
+hop-spec = tie.close (tie.spec cast-result returns)

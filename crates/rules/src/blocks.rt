@@ -1,0 +1,86 @@
+// Which rules lie in a block: where they stand in the list of live rules, and whether one of them opens it.
+ghost use mathlib.Core.Path.{_≡_};
+ghost use mathlib.Core.Bool.{_||_};
+ghost use Prim.Native.Nat.{_%_, _^_, _<_};
+ghost use lib.Dec.{ltb};
+ghost use Rattle.prefix.specs.Geometry.{width, blockSize};
+ghost use Rattle.prefix.specs.Price.{isOpen};
+ghost use Rattle.rules.specs.Words.{prefixOf};
+ghost use Rattle.rules.specs.Rules.{routes};
+ghost use Rattle.rules.specs.inner.Places.{Listed};
+ghost use Rattle.rules.specs.inner.Blocks.{Reached, StretchIs, PassedIs};
+use crate::list::position;
+use crate::word::Rule;
+use prefix::Prefix;
+use prefix::geometry::Block;
+
+// A place in the list of live rules, and whether a rule longer than a block was passed on the way to it.
+pub struct Cursor {
+    pub at: usize,
+    pub opened: bool,
+}
+
+// Where the cursor stands at an address: at the first rule that starts there or later.
+pub fn reach(rules: &[u64], live: usize, address: u32) -> usize
+    requires { ⌜ Listed (now rules) live ⌝ }
+    ensures { λ r. ⌜ Reached (now (rules .entry)) live address r ⌝ }
+{
+    position(rules, live, Rule::key_of(Prefix { address, length: 0 }))
+}
+
+// Whether a rule longer than a block was passed, once the word is passed too.
+fn opens(opened: bool, word: u64) -> bool
+    ensures { λ r. ⌜ r ≡ (opened || ltb width (prefixOf word .length)) ⌝ }
+{
+    if opened {
+        return true;
+    }
+    Block::WIDTH < Rule::length(word)
+}
+
+// Past the rules of the block that starts at the address `start`. The cursor stands at the first of them.
+pub fn pass(rules: &[u64], live: usize, at: usize, start: u64) -> Cursor
+    requires { ⌜ Listed (now rules) live ⌝ }
+    requires { ⌜ Reached (now rules) live start at ⌝ }
+    requires { ⌜ (start % blockSize ≡ 0) × (start < 2 ^ 63) ⌝ }
+    ensures { λ r. ⌜ PassedIs (now (rules .entry)) live start (r .at) (r .opened) ⌝ }
+{
+    let mut i = at;
+    let mut opened = false;
+    while i < live {
+        let word = rules[i];
+        if start + Block::SIZE as u64 <= Rule::address(word) as u64 {
+            return Cursor { at: i, opened };
+        }
+        opened = opens(opened, word);
+        i += 1;
+    }
+    Cursor { at: i, opened }
+}
+
+// How many of the `left` blocks from the address `start` on come before the next rule's. The cursor stands at that rule.
+pub fn stretch(rules: &[u64], live: usize, at: usize, start: u64, left: usize) -> usize
+    requires { ⌜ Listed (now rules) live ⌝ }
+    requires { ⌜ Reached (now rules) live start at ⌝ }
+    ensures { λ r. ⌜ StretchIs (now (rules .entry)) live at start left r ⌝ }
+{
+    if at == live {
+        return left;
+    }
+    let ahead = ((Rule::address(rules[at]) as u64 - start) / Block::SIZE as u64) as usize;
+    if left < ahead {
+        return left;
+    }
+    ahead
+}
+
+// Whether a live prefix longer than a block lies in the one that starts at this address.
+pub fn is_open(rules: &[u64], live: usize, start: u32) -> bool
+    requires { ⌜ Listed (now rules) live ⌝ }
+    requires { ⌜ start % blockSize ≡ 0 ⌝ }
+    ensures { λ r. ⌜ r ≡ isOpen (routes (now (rules .entry))) start ⌝ }
+{
+    let at = reach(rules, live, start);
+    let passed = pass(rules, live, at, start as u64);
+    passed.opened
+}
