@@ -10,7 +10,8 @@ use Rattle.prefix.specs.declared.Prefix.{Prefix}
 use Rattle.prefix.specs.Prefixes.{Contains}
 use Rattle.prefix.specs.Routes.{Route, Match, no-route, via, best, IsLongest}
 use Rattle.cells.specs.Memory.{Lent}
-use Rattle.history.specs.History.{Call, History, start, _then_, memory, live}
+use Rattle.refusals.specs.Codes.{Call}
+use Rattle.history.specs.History.{History, start, _then_, memory, live}
 use Rattle.octets.specs.Words.{wordCount}
 use Rattle.octets.specs.Booking.{Outcome, addTo}
 use Rattle.octets.specs.Bookings.{Flow, Bookings, none, _booking_, wordsAfter, isAccepted, octetsAll}

@@ -2,7 +2,7 @@
 ghost use mathlib.Core.Path.{_≡_};
 ghost use lib.ListN.{length};
 ghost use Rattle.history.specs.History.{memory};
-ghost use Rattle.cells.specs.Memory.{LentToUpdate};
+ghost use Rattle.cells.proofs.Lending.{LentToUpdate};
 ghost use Rattle.collector.specs.Running.{site, countOf, nextOf, lastOf, Handed, LastIs};
 use crate::input;
 use crate::input::After;

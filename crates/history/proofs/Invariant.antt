@@ -10,7 +10,8 @@ use lib.ListN.{length, getD, replicate, length-set, length-replicate, getD-repli
 use Rattle.ground.proofs.Tests.{eqb?, stops}
 use Rattle.ground.proofs.Cases.{by-lt}
 use Rattle.prefix.specs.declared.Prefix.{Prefix}
-use Rattle.prefix.specs.Prefixes.{key, WellFormed, Encloses}
+use Rattle.prefix.proofs.Order.{key}
+use Rattle.prefix.specs.Prefixes.{WellFormed, Encloses}
 use Rattle.prefix.specs.Geometry.{Territory, blockStart, blockOf, blockSize}
 use Rattle.prefix.specs.Price.{opened as opened-run}
 use Rattle.prefix.specs.Routes.{Route, best, with-route, without, keep, other, IsRoute, AllRoutes, Ascending, Change, applied, puts, takes}

@@ -19,7 +19,7 @@ use Rattle.cells.specs.Cells.{pointerBit, pointTo, segmentOf, cellOf}
 use Rattle.prefix.proofs.Spans.{block-inside, opens-own, opens-only}
 use Rattle.cells.specs.Memory.{Tables}
 use Rattle.tables.specs.Cellwise.{unpaintCell, repainted}
-use Rattle.tables.proofs.Segments.{closes?}
+use Rattle.updates.proofs.Taking.{closes?}
 use Rattle.tables.specs.Changes.{closedAt, closes, closedFor}
 use Rattle.history.proofs.Holding.{retold, pointer-stays, repaint-step, close-step, Holds}
 use Rattle.history.proofs.Matches.{best-good, cell-direct, unpaint-best}

@@ -6,12 +6,13 @@ use Rattle.ground.proofs.Tests.{eqb?, cond-on, cond-off}
 use Rattle.prefix.specs.declared.Prefix.{Prefix}
 use Rattle.records.specs.declared.Update.{Update}
 use Rattle.records.specs.declared.Reading.{Reading}
-use Rattle.records.specs.Record.{readAs, announce as announceKind, withdraw as withdrawKind}
+use Rattle.records.specs.Record.{readAs, announce as announceKind, withdraw as withdrawKind, announce, withdraw, reHome}
 use Rattle.rules.specs.Words.{routeBy}
 use Rattle.cells.specs.Memory.{Lent}
-use Rattle.history.specs.History.{memory, Call, announces, withdraws, re-homes, step}
+use Rattle.history.specs.History.{memory}
+use Rattle.refusals.specs.Codes.{Call, announces, withdraws, re-homes}
+use Rattle.updates.specs.Calls.{step, Outcome, Meets}
 use Rattle.updates.specs.declared.Report.{Report}
-use Rattle.updates.specs.Calls.{Outcome, announce, withdraw, reHome, Meets}
 use Rattle.stream.specs.Stream.{callOf}
 use Rattle.stream.specs.Taking.{TurnIs}
 

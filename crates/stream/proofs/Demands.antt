@@ -8,9 +8,10 @@ use Rattle.prefix.specs.Prefixes.{Contains}
 use Rattle.lookup.specs.Lookup.{lookUp}
 use Rattle.records.specs.declared.Update.{Update}
 use Rattle.cells.specs.Memory.{Lent, IsLent}
-use Rattle.updates.specs.Calls.{clear}
+use Rattle.updates.specs.Calls.{clear, step}
 use Rattle.history.specs.Costs.{Costs}
-use Rattle.history.specs.History.{History, start, _then_, step, named, memory, report, live, IsAnswer}
+use Rattle.history.specs.History.{History, start, _then_, memory, report, live, IsAnswer}
+use Rattle.prefix.specs.Routes.{named}
 use Rattle.history.proofs.Demand2.{demand-2}
 use Rattle.history.proofs.Demand3.{demand-3}
 use Rattle.stream.specs.Stream.{callOf, goesOn, lentAfter, linesOf}

@@ -14,7 +14,8 @@ use Rattle.records.specs.Record.{size, readAs, nextSerial}
 use Rattle.records.proofs.Accepted.{readable}
 use Rattle.records.proofs.RoundTrip.{read-alike}
 use Rattle.cells.specs.Memory.{Lent}
-use Rattle.history.specs.History.{History, _then_, step, memory}
+use Rattle.history.specs.History.{History, _then_, memory}
+use Rattle.updates.specs.Calls.{step}
 use Rattle.stream.specs.declared.Step.{Step}
 use Rattle.stream.specs.declared.Step.the-variants.{Expects, Refused}
 use Rattle.stream.specs.Stream.{Stream, refusedAt, first-then, ofRecords, recordsIn, streamOf, callOf, goesOn, lentAfter}

@@ -10,8 +10,7 @@ use borrow.Rule.Slice.PartAt.{part-to-end}
 use Rattle.prefix.specs.declared.Prefix.{Prefix}
 use Rattle.records.specs.Record.{size, readAs, nextSerial}
 use Rattle.cells.specs.Memory.{Lent}
-use Rattle.updates.specs.Calls.{Outcome}
-use Rattle.history.specs.History.{step}
+use Rattle.updates.specs.Calls.{Outcome, step}
 use Rattle.stream.specs.declared.Step.{Step}
 use Rattle.stream.specs.declared.Step.the-variants.{Expects, Refused}
 use Rattle.stream.specs.declared.Turn.{Turn}

@@ -13,7 +13,9 @@ use Rattle.records.specs.declared.Update.{Update}
 use Rattle.records.specs.Record.{size, readAs, nextSerial, announce as announceKind, withdraw as withdrawKind}
 use Rattle.rules.specs.Words.{routeBy}
 use Rattle.cells.specs.Memory.{Lent}
-use Rattle.history.specs.History.{Call, announces, withdraws, re-homes, History, _then_, step}
+use Rattle.refusals.specs.Codes.{Call, announces, withdraws, re-homes}
+use Rattle.history.specs.History.{History, _then_}
+use Rattle.updates.specs.Calls.{step}
 use Rattle.stream.specs.declared.Step.{Step}
 use Rattle.stream.specs.declared.Step.the-variants.{Expects, Refused}
 

@@ -6,7 +6,7 @@ use native.Mathlib.Nat.{le-trans}
 use Rattle.ground.proofs.Tests.{eqb?, and?, not?, cond-on, cond-off}
 use Rattle.prefix.specs.Routes.{Route, best}
 use Rattle.cells.specs.Cells.{empty, lengthOf, cellOf}
-use Rattle.runs.specs.Run.{RunIs}
+use Rattle.runs.specs.inner.Run.{RunIs}
 use Rattle.tables.specs.Cellwise.{unpaintCell}
 use Rattle.tables.specs.inner.Unpaint.{Kept}
 

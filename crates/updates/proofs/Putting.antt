@@ -11,27 +11,30 @@ use Rattle.ground.proofs.Tests.{eqb?, passes, says, denies}
 use Rattle.ground.proofs.Cases.{by-lt}
 use Rattle.prefix.specs.declared.Prefix.{Prefix}
 use Rattle.prefix.specs.Prefixes.{WellFormed}
-use Rattle.prefix.specs.Price.{isOpen}
+use Rattle.prefix.specs.Price.{isOpen, opened}
 use Rattle.prefix.specs.Geometry.{blocks, blockStart, blockOf}
 use Rattle.prefix.specs.Routes.{Route, isRoute, with-route}
 use Rattle.prefix.proofs.Best.{isRoute?}
 use Rattle.prefix.proofs.Blocks.{Opens, opened?}
 use Rattle.cells.specs.Cells.{pack, pointerBit, segmentOf}
-use Rattle.rules.specs.Rules.{routes, isLive, wordsOf, Listed, PlaceIs}
+use Rattle.rules.specs.Rules.{routes, isLive, wordsOf}
+use Rattle.rules.specs.inner.Places.{Listed, PlaceIs}
 use Rattle.rules.proofs.Indices.{IsLive, isLive?, listed-within}
-use Rattle.cells.specs.Memory.{Lent, lowestFree}
-use Rattle.refusals.specs.Codes.{noZero, needsSegment, announceCode, reHomeCode}
+use Rattle.cells.specs.Memory.{Lent, lowestFree, noZero, needsSegment}
+use Rattle.refusals.specs.Codes.{announceCode, reHomeCode}
 use Rattle.refusals.proofs.FreeWords.{lowest-free, all-live}
 use Rattle.refusals.proofs.Refusing.{Passed, needsSegment?, announce-passed, live-passed}
 use Rattle.refusals.proofs.Soundness.{BlockSound}
-use Rattle.tables.specs.Cellwise.{paintCell, firstChanged, longChanged}
-use Rattle.tables.specs.inner.Ready.{Ready}
+use Rattle.tables.specs.Cellwise.{paintCell, firstChanged, longChanged, repainted}
+use Rattle.tables.specs.inner.Ready.{Ready, Points, Repaintable, Openable}
 use Rattle.prefix.proofs.Spans.{some-block, opens-own}
-use Rattle.tables.specs.inner.Repaint.{Points, Repaintable, Repainted}
-use Rattle.tables.specs.Segments.{Openable, OpenedAndChanged, firstOpened, ownersOpened, segmentFilled}
-use Rattle.updates.specs.Effects.{repainted, listing, openedAt, opened, announced}
-use Rattle.updates.specs.Calls.{accepted, changed, Meets}
-use Rattle.updates.specs.Steps.{TablesAre, Paintable, RoutePainted, Puttable}
+use Rattle.tables.specs.inner.Repaint.{Repainted}
+use Rattle.tables.specs.Segments.{OpenedAndChanged, firstOpened, ownersOpened}
+use Rattle.tables.specs.Changes.{segmentFilled, openedAt, changed}
+use Rattle.updates.specs.Effects.{listing, announced}
+use Rattle.updates.specs.Calls.{accepted, Meets}
+use Rattle.updates.specs.Steps.{TablesAre, RoutePainted}
+use Rattle.updates.specs.inner.Steps.{Paintable, Puttable}
 
 -- ---- what refusals 1 to 4 let pass can be changed
 

@@ -10,7 +10,8 @@ use Rattle.ground.specs.Lists.{differing}
 use Rattle.ground.proofs.Tests.{Decides, ltb?, and?, not?, passes, says}
 use Rattle.ground.proofs.Members.{index-mem}
 use Rattle.prefix.specs.declared.Prefix.{Prefix}
-use Rattle.prefix.specs.Prefixes.{key, wellFormed, WellFormed, Encloses}
+use Rattle.prefix.proofs.Order.{key}
+use Rattle.prefix.specs.Prefixes.{wellFormed, WellFormed, Encloses}
 use Rattle.prefix.specs.Price.{isOpen}
 use Rattle.prefix.specs.Geometry.{blockStart, blockOf}
 use Rattle.prefix.specs.Routes.{Route, best, without, keep, other, AllRoutes, Ascending}
@@ -18,7 +19,8 @@ use Rattle.prefix.proofs.Prefixes.{wellFormed?, in-range}
 use Rattle.prefix.proofs.Changes.{keep-cases, without-mem, without-routes, without-ascending, without-absent, other?}
 use Rattle.cells.specs.Cells.{empty, segmentOf, cellOf}
 use Rattle.rules.specs.Words.{routeOf}
-use Rattle.rules.specs.Rules.{live, routes, wordsOf, Formed, Listed, PlaceIs}
+use Rattle.rules.specs.Rules.{live, routes, wordsOf, Formed}
+use Rattle.rules.specs.inner.Places.{Listed, PlaceIs}
 use Rattle.rules.proofs.FormTests.{formed-listed}
 use Rattle.rules.proofs.LiveWords.{live-at}
 use Rattle.rules.proofs.Indices.{IsLive, isLive?, routes-index}
@@ -28,14 +30,17 @@ use Rattle.refusals.specs.Codes.{withdrawCode}
 use Rattle.prefix.proofs.Spans.{aligned}
 use Rattle.refusals.proofs.Refusing.{live-passed}
 use Rattle.refusals.proofs.Soundness.{true?}
-use Rattle.tables.specs.Cellwise.{unpaintCell}
-use Rattle.tables.specs.inner.Repaint.{Repaintable, Repainted}
-use Rattle.tables.specs.Segments.{Closable, Closed, segmentFilled}
+use Rattle.tables.specs.Cellwise.{unpaintCell, repainted}
+use Rattle.tables.specs.inner.Ready.{Repaintable, Closable}
+use Rattle.tables.specs.inner.Repaint.{Repainted}
+use Rattle.tables.specs.Segments.{Closed}
+use Rattle.tables.specs.Changes.{segmentFilled, closes, closedAt, changed}
 use Rattle.tables.proofs.Closing.{set-after, filled-after}
 use Rattle.tables.proofs.Repaints.{firsts-stay}
-use Rattle.updates.specs.Effects.{repainted, listing, closes, closed, closedAt, withdrawn}
-use Rattle.updates.specs.Calls.{accepted, changed, Meets}
-use Rattle.updates.specs.Steps.{TablesAre, Blocked, Unpainted, Takable}
+use Rattle.updates.specs.Effects.{listing, closed, withdrawn}
+use Rattle.updates.specs.Calls.{accepted, Meets}
+use Rattle.updates.specs.Steps.{TablesAre, Blocked, Unpainted}
+use Rattle.updates.specs.inner.Steps.{Takable}
 use Rattle.updates.proofs.Putting.{ready-of, live-points}
 
 -- ---- the rules that are left

@@ -7,7 +7,8 @@ use Rattle.prefix.specs.Geometry.{blockStart}
 use Rattle.prefix.specs.Routes.{Route, best}
 use Rattle.cells.specs.Cells.{cellOf}
 use Rattle.cells.specs.Memory.{Tables}
-use Rattle.rules.specs.Rules.{routes, Listed}
+use Rattle.rules.specs.Rules.{routes}
+use Rattle.rules.specs.inner.Places.{Listed}
 use Rattle.tables.specs.Cellwise.{unpaintCell}
 use Rattle.tables.specs.inner.Ranges.{RunChanged, BlocksChanged}
 

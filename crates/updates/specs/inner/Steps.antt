@@ -8,7 +8,8 @@ use Rattle.prefix.specs.declared.geometry.Blocks.{Blocks}
 use Rattle.prefix.specs.Geometry.{touched}
 use Rattle.prefix.specs.Routes.{Route, IsRoute}
 use Rattle.cells.specs.Memory.{Tables, Lent, noZero, lowestFree, needsSegment}
-use Rattle.rules.specs.Rules.{Formed, Listed, PlaceIs}
+use Rattle.rules.specs.Rules.{Formed}
+use Rattle.rules.specs.inner.Places.{Listed, PlaceIs}
 use Rattle.tables.specs.inner.Ready.{Ready}
 use Rattle.refusals.specs.declared.codes.Checked.{Checked}
 

@@ -8,7 +8,7 @@ use native.Mathlib.Omega.{arith}
 use Rattle.ground.proofs.Tests.{ltb?, passes, stops}
 use Rattle.prefix.specs.Price.{isOpen}
 use Rattle.rules.specs.Rules.{routes}
-use Rattle.updates.specs.Effects.{closes}
+use Rattle.tables.specs.Changes.{closes}
 use Rattle.updates.proofs.Taking.{closes?, block-aligned}
 use Rattle.updates.proofs.take.closes_block.Statement.{statement}
 use Rattle.updates.proofs.take.closes_block.Tie as tie
