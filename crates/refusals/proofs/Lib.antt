@@ -1,5 +1,6 @@
--- Laws of what is lent, of damage and of the numbers of refusal; the crates above cite them.
+-- Laws of damage and of the numbers of refusal; the crates above cite them.
 pub mod Soundness
 pub mod Walking
+pub mod Turns
 pub mod FreeWords
 pub mod Refusing

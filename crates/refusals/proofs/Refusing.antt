@@ -1,196 +1,223 @@
 -- The tests of an update in their order: at which number they stop, and what is known where they do not. Assumes nothing.
-use mathlib.Core.Path.{_≡_, refl, sym, ap₂, subst, _∙_}
-use mathlib.Core.Bool.{Bool, true, false, cond, not, _&&_}
-use mathlib.Core.List.{List}
+use mathlib.Core.Path.{_≡_, refl, sym, ap, ap₂, subst, _∙_}
+use mathlib.Core.Bool.{Bool, true, false, cond, not, _&&_, true≢false, false≢true}
 use Prim.Native.Nat.{ℕ, _≤_, _<_}
-use native.Mathlib.Nat.{lt-of-not-le}
 use native.Mathlib.Omega.{arith}
 use lib.Dec.{eqb}
 use lib.ListN.{length, getD}
 use borrow.Author.Tests.{not-false}
-use Rattle.ground.proofs.Tests.{Decides, holds, fails, leb?, ltb?, and?, not?, iff?, passes, stops}
+use Rattle.ground.proofs.Tests.{Decides, holds, fails, eqb?, passes, stops, says, cond-on, cond-off}
+use Rattle.ground.proofs.Cases.{by-lt}
 use Rattle.prefix.specs.declared.Prefix.{Prefix}
-use Rattle.prefix.specs.Prefixes.{encloses, Encloses}
-use Rattle.prefix.specs.Routes.{Route, isRoute}
-use Rattle.prefix.proofs.Prefixes.{encloses?, in-range}
+use Rattle.prefix.specs.Prefixes.{encloses, WellFormed, Encloses}
+use Rattle.prefix.specs.Routes.{Change, puts, takes, named, isChange}
+use Rattle.prefix.specs.Price.{isOpen}
+use Rattle.prefix.specs.Geometry.{width, blockStart, blockOf}
+use Rattle.prefix.proofs.Prefixes.{wellFormed?, encloses?}
+use Rattle.prefix.proofs.Best.{isRoute?}
+use Rattle.prefix.proofs.Blocks.{Opens, opened?}
+use Rattle.prefix.proofs.Spans.{some-block, opens-own}
 use Rattle.cells.specs.Cells.{pointerBit}
-use Rattle.prefix.specs.Geometry.{blockOf}
-use Rattle.prefix.proofs.Spans.{block-inside}
-use Rattle.rules.specs.Rules.{routes, isLive}
-use Rattle.refusals.specs.declared.codes.Checked.{Checked}
-use Rattle.cells.specs.Memory.{Lent, isLent, IsLent}
-use Rattle.refusals.specs.Damage.{undamaged}
-use Rattle.refusals.specs.Codes.{noZero, needsSegment, tested, announceCode, refusedBy, CheckedIs}
+use Rattle.cells.specs.Memory.{Tables, Lent, isLent, IsLent, noZero, needsSegment}
 use Rattle.cells.proofs.Lending.{isLent?}
+use Rattle.cells.proofs.FreeSegments.{needsSegment?}
+use Rattle.rules.specs.Rules.{routes, isLive}
+use Rattle.rules.proofs.FormTests.{formed-listed}
+use Rattle.rules.proofs.Indices.{isLive?}
+use Rattle.refusals.specs.declared.codes.Checked.{Checked}
+use Rattle.refusals.specs.Damage.{undamaged}
+use Rattle.refusals.specs.Codes.{Call, change, tested, unlessLive, unlessRoom, own, code}
+use Rattle.refusals.specs.inner.Checks.{Told, unlessDamaged, none, Asked}
 use Rattle.refusals.proofs.FreeWords.{all-live}
-use Rattle.refusals.proofs.Soundness.{true?, Undamaged, undamaged?}
+use Rattle.refusals.proofs.Soundness.{true?, BlockSound, Undamaged, undamaged?}
 
--- ---- refusals 1 to 4
+-- ---- what a call knows where its number is 0
 
--- what they let pass
-pub record Passed (t : Prefix) (m : Lent) (p : Prefix) (lets : Bool) : Type 0 where
+-- what refusals 1 to 4 let pass
+pub record Admitted (t : Prefix) (c : Change) (m : Lent) : Type 0 where
   pub lent : IsLent m t
-  pub numbers : lets ≡ true
-  pub inside : Encloses t p
-  pub sound : Undamaged t m p
+  pub numbers : isChange c ≡ true
+  pub inside : Encloses t (named c)
+  pub sound : Undamaged t (named c) m
+
+-- what refusals 6 and 7 let pass: the prefix is live or a rule word is free, and a segment that is needed is there
+pub record HasRoom (t p : Prefix) (m : Lent) : Type 0 where
+  pub word : isLive p (routes (m .rules)) ≡ false → noZero (m .rules) ≡ false
+  pub segment : needsSegment t p (m .tables) ≡ true → noZero (m .tables .owners) ≡ false
 
 -- the number, by the four tests
 abbrev number : Bool → Bool → Bool → Bool → ℕ → ℕ
 number a b c d next = cond (not a) 1 (cond (not b) 2 (cond (not c) 3 (cond (not d) 4 next)))
 
-module _ (t : Prefix) (m : Lent) (p : Prefix) (lets : Bool) (next : ℕ) where
-  -- each way out
-  pub stops-at-1 : ¬ IsLent m t → 1 ≡ tested t m p lets next
+tested-0 : (t : Prefix) (c : Change) (m : Lent) (next : ℕ) → tested t c m next ≡ 0 → Admitted t c m × (next ≡ 0)
+unfolding tested
+tested-0 t c m next e = go (isLent? m t) (true? (isChange c)) (encloses? t (named c)) (undamaged? t (named c) m) e
+  where
+    go : {w x y z : Bool} → Decides (IsLent m t) w → Decides (isChange c ≡ true) x → Decides (Encloses t (named c)) y → Decides (Undamaged t (named c) m) z
+        → number w x y z next ≡ 0 → Admitted t c m × (next ≡ 0)
+    go (holds l) (holds b) (holds i) (holds u) e = (record { lent = l; numbers = b; inside = i; sound = u }, e)
+    go (holds l) (holds b) (holds i) (fails n) e = absurd (omega arith)
+    go (holds l) (holds b) (fails n) d e = absurd (omega arith)
+    go (holds l) (fails n) i d e = absurd (omega arith)
+    go (fails n) b i d e = absurd (omega arith)
+
+pub admitted : (t : Prefix) (c : Call) (m : Lent) → code t c m ≡ 0 → Admitted t (change c) m × (own t c m ≡ 0)
+unfolding code
+admitted t c m e = tested-0 t (change c) m (own t c m) e
+
+-- a number that a test picks before another is not picked where the answer is 0
+not-picked : (b : Bool) {k n : ℕ} → (k ≡ 0 → ⊥) → cond b k n ≡ 0 → (b ≡ false) × (n ≡ 0)
+not-picked true f z = absurd (f z)
+not-picked false f z = (refl, z)
+
+-- a withdrawal or a re-homing: the prefix is live
+pub live-passed : (p : Prefix) (m : Lent) → unlessLive p m ≡ 0 → isLive p (routes (m .rules)) ≡ true
+unfolding unlessLive
+live-passed p m z = not-false _ (not-picked (not (isLive p (routes (m .rules)))) (λ e. omega arith) z .0)
+
+-- an announce
+pub room-passed : (t p : Prefix) (m : Lent) → unlessRoom t p m ≡ 0 → HasRoom t p m
+unfolding unlessRoom
+room-passed t p m z =
+    let word = not-picked (not (isLive p (routes (m .rules))) && noZero (m .rules)) (λ e. omega arith) z in
+    let segment = not-picked (needsSegment t p (m .tables) && noZero (m .tables .owners)) (λ e. omega arith) (word .1) in
+    record { word = λ e. second _ _ (word .0) (ap not e); segment = λ e. second _ _ (segment .0) e }
+  where
+    second : (x y : Bool) → x && y ≡ false → x ≡ true → y ≡ false
+    second true y q e = q
+    second false y q e = absurd (false≢true e)
+
+-- the prefix of a change that refusal 2 lets pass is well formed
+pub named-formed : (c : Change) → isChange c ≡ true → WellFormed (named c)
+unfolding isChange
+named-formed (puts r) e = says (isRoute? r) e .formed
+named-formed (takes p) e = says (wellFormed? p) e
+
+-- a live prefix longer than 24 opens its block, so the block's cell is a pointer where nothing is damaged
+module _ {t : Prefix} {c : Change} {m : Lent} (k : Admitted t c m) (l : isLive (named c) (routes (m .rules)) ≡ true) where
+  pub live-points : width < named c .length → pointerBit ≤ getD (m .tables .first) (blockOf t (named c .address)) 0
+  live-points long =
+      let p = named c in
+      let b = blockOf t (p .address) in
+      let rs = routes (m .rules) in
+      let L = says (isLive? p rs (formed-listed (k .sound .rules) .all) (named-formed c (k .numbers))) l in
+      let is-open : isOpen rs (blockStart t b) ≡ true = passes (opened? width rs (blockStart t b))
+      (L .0, L .1, subst (λ (q : Prefix). Opens width q (blockStart t b)) (sym (L .2)) (opens-own t p (k .lent .sized .territory) (k .inside) long)) in
+      let S : BlockSound t rs (m .tables) b = k .sound .blocks b (omega arith) (omega (arith, some-block p)) in
+      by-lt (getD (m .tables .first) b 0) pointerBit (λ d. absurd (true≢false (sym is-open ∙ S .other d .1))) (λ g. g)
+
+  -- so it needs no segment
+  pub live-needs-none : needsSegment t (named c) (m .tables) ≡ false
+  live-needs-none = stops (needsSegment? t (named c) (m .tables)) (λ h. let g = live-points (h .0) in omega (arith, h .1))
+
+-- ---- at which number the tests stop
+
+-- of a change of p, where `lets` says whether refusal 2 lets its numbers pass
+module _ (t : Prefix) {c : Change} (m : Lent) {p : Prefix} {lets : Bool} (a : Asked c p lets) where
+  number-is : number (isLent m t) lets (encloses t p) (undamaged t p m) 0 ≡ tested t c m 0
   unfolding tested
-  stops-at-1 n = rw (stops (isLent? m t) n)
+  number-is = ap₂ (λ (b : Bool) (q : Prefix). number (isLent m t) b (encloses t q) (undamaged t q m) 0) (a .numbers) (sym (a .names))
+
+  pub stops-at-1 : ¬ IsLent m t → 1 ≡ tested t c m 0
+  stops-at-1 n = rw (← number-is, stops (isLent? m t) n)
 
   module _ (lent : IsLent m t) where
-    pub stops-at-2 : lets ≡ false → 2 ≡ tested t m p lets next
-    unfolding tested
-    stops-at-2 e = rw (passes (isLent? m t) lent, e)
+    pub stops-at-2 : lets ≡ false → 2 ≡ tested t c m 0
+    stops-at-2 e = rw (← number-is, passes (isLent? m t) lent, e)
 
-    module _ (numbers : lets ≡ true) where
-      pub stops-at-3 : ¬ Encloses t p → 3 ≡ tested t m p lets next
-      unfolding tested
-      stops-at-3 n = rw (passes (isLent? m t) lent, numbers, stops (encloses? t p) n)
+    module _ (e : lets ≡ true) where
+      pub stops-at-3 : ¬ Encloses t p → 3 ≡ tested t c m 0
+      stops-at-3 n = rw (← number-is, passes (isLent? m t) lent, e, stops (encloses? t p) n)
 
-      module _ (inside : Encloses t p) where
-        pub stops-at-4 : ¬ Undamaged t m p → 4 ≡ tested t m p lets next
-        unfolding tested
-        stops-at-4 n = rw (passes (isLent? m t) lent, numbers, passes (encloses? t p) inside, stops (undamaged? t m p) n)
+      pub goes-to-4 : Encloses t p → unlessDamaged t p m ≡ tested t c m 0
+      unfolding unlessDamaged
+      goes-to-4 i = rw (← number-is, passes (isLent? m t) lent, e, passes (encloses? t p) i)
 
-        pub goes-on : Undamaged t m p → next ≡ tested t m p lets next
-        unfolding tested
-        goes-on u = rw (passes (isLent? m t) lent, numbers, passes (encloses? t p) inside, passes (undamaged? t m p) u)
+-- refusal 4
+module _ (t p : Prefix) (m : Lent) where
+  pub stops-at-4 : ¬ Undamaged t p m → 4 ≡ unlessDamaged t p m
+  unfolding unlessDamaged
+  stops-at-4 n = rw (stops (undamaged? t p m) n)
 
-  -- where the answer is 0, all is as it has to be, and what follows is 0 too
-  pub passed : tested t m p lets next ≡ 0 → Passed t m p lets × (next ≡ 0)
-  unfolding tested
-  passed e = go (isLent? m t) (true? lets) (encloses? t p) (undamaged? t m p) e
-    where
-      go : {a b c d : Bool} → Decides (IsLent m t) a → Decides (lets ≡ true) b → Decides (Encloses t p) c → Decides (Undamaged t m p) d
-          → number a b c d next ≡ 0 → Passed t m p lets × (next ≡ 0)
-      go (holds l) (holds b) (holds i) (holds u) z = (record { lent = l; numbers = b; inside = i; sound = u }, z)
-      go (holds l) (holds b) (holds i) (fails n) z = absurd (omega arith)
-      go (holds l) (holds b) (fails n) d z = absurd (omega arith)
-      go (holds l) (fails n) c d z = absurd (omega arith)
-      go (fails n) b c d z = absurd (omega arith)
+  pub no-damage : Undamaged t p m → 0 ≡ unlessDamaged t p m
+  unfolding unlessDamaged
+  no-damage u = rw (passes (undamaged? t p m) u)
 
-  -- where refusals 1 to 4 answer another number, that is all
-  at-once : ¬ (tested t m p lets 0 ≡ 0) → tested t m p lets 0 ≡ tested t m p lets next
-  unfolding tested
-  at-once = go (isLent m t) lets (encloses t p) (undamaged t m p)
-    where
-      go : (a b c d : Bool) → ¬ (number a b c d 0 ≡ 0) → number a b c d 0 ≡ number a b c d next
-      go true true true true n = absurd (n refl)
-      go true true true false n = refl
-      go true true false d n = refl
-      go true false c d n = refl
-      go false b c d n = refl
-
--- the block of the prefix has its cell
-pub block-lent : {t : Prefix} {m : Lent} {p : Prefix} {lets : Bool} → Passed t m p lets
-    → (t .address ≤ p .address) × (blockOf t (p .address) < length (m .first))
-block-lent k =
-    let l = k .lent in
-    (in-range (l .territory .formed) (k .inside .inside) .0, omega (arith, block-inside (l .territory) (k .inside .inside), l .a-cell-a-block))
+-- where refusals 1 to 4 answer another number than 0, that is all, and else what follows is
+after-4 : (t : Prefix) (c : Change) (m : Lent) (next : ℕ) → cond (eqb (tested t c m 0) 0) next (tested t c m 0) ≡ tested t c m next
+unfolding tested
+after-4 t c m next = go (isLent m t) (isChange c) (encloses t (named c)) (undamaged t (named c) m)
+  where
+    go : (w x y z : Bool) → cond (eqb (number w x y z 0) 0) next (number w x y z 0) ≡ number w x y z next
+    go true true true true = refl
+    go true true true false = refl
+    go true true false z = refl
+    go true false y z = refl
+    go false x y z = refl
 
 -- ---- what an update is told
 
-module _ {ws : List ℕ} {p : Prefix} where
+module _ {t p : Prefix} {m : Lent} where
   -- the code is the number at which the tests stop
-  pub refused-is : {code number answer : ℕ} {r : Checked} → r ≡ refusedBy code → number ≡ answer → code ≡ number → ¬ (code ≡ 0) → CheckedIs ws p answer r
-  refused-is {answer = answer} e a c n =
-      subst (CheckedIs ws p answer) (sym e)
-      (record { number = c ∙ a; listed = λ z. absurd (n z); place = λ z. absurd (n z); refused = λ _. refl })
+  pub refused-is : {answer : Lent → ℕ} {opened : Tables → Bool} {k : ℕ} {r : Checked} → k ≡ answer m → r .code ≡ k → ¬ (k ≡ 0) → Told t p answer opened m r
+  refused-is a e n = record {
+    number = e ∙ a;
+    listed = λ z. absurd (n (sym e ∙ z));
+    place = λ z. absurd (n (sym e ∙ z));
+    blocks = λ z. absurd (n (sym e ∙ z));
+    opens = λ z. absurd (n (sym e ∙ z));
+    segment = λ z. absurd (n (sym e ∙ z));
+  }
 
-  pub checked-as : {r : Checked} {a b : ℕ} → a ≡ b → CheckedIs ws p a r → CheckedIs ws p b r
-  checked-as {r} e = subst (λ (x : ℕ). CheckedIs ws p x r) e
+  -- by another name
+  pub told-as : {a b : Lent → ℕ} {x y : Tables → Bool} {r : Checked} → Told t p a x m r → a m ≡ b m → (r .code ≡ 0 → x (m .tables) ≡ y (m .tables)) → Told t p b y m r
+  told-as k e f = record {
+    number = k .number ∙ e;
+    listed = k .listed;
+    place = k .place;
+    blocks = k .blocks;
+    opens = λ z. k .opens z ∙ f z;
+    segment = k .segment;
+  }
 
 -- x is what refusals 1 to 4 answered
-module _ (t : Prefix) (m : Lent) (p : Prefix) (lets : Bool) {x : Checked} (k : CheckedIs (m .rules) p (tested t m p lets 0) x) where
-  pub stays : (next : ℕ) → ¬ (x .code ≡ 0) → CheckedIs (m .rules) p (tested t m p lets next) x
-  stays next n = checked-as (at-once t m p lets next (λ z. n (k .number ∙ z))) k
+module _ (c : Change) {t p : Prefix} {m : Lent} {x : Checked} (k : Told t p (λ n. tested t c n 0) none m x) where
+  pub stays : (next : Lent → ℕ) {opened : Tables → Bool} → ¬ (x .code ≡ 0) → Told t p (λ n. tested t c n (next n)) opened m x
+  stays next n =
+      told-as k (sym (cond-off (next m) (tested t c m 0) (eqb? (tested t c m 0) 0) (λ z. n (k .number ∙ z))) ∙ after-4 t c m (next m)) (λ z. absurd (n z))
 
   module _ (zero : x .code ≡ 0) where
-    pub let-pass : Passed t m p lets
-    let-pass = passed t m p lets 0 (sym (k .number) ∙ zero) .0
+    pub goes-on : {number next : ℕ} → number ≡ next → number ≡ tested t c m next
+    goes-on {next = next} e = e ∙ sym (cond-on next (tested t c m 0) (eqb? (tested t c m 0) 0) (sym (k .number) ∙ zero)) ∙ after-4 t c m next
 
-    goes-to : (next : ℕ) → next ≡ tested t m p lets next
-    goes-to next = goes-on t m p lets next (let-pass .lent) (let-pass .numbers) (let-pass .inside) (let-pass .sound)
-
-    -- ---- refusal 5
-
-    pub not-live : not (x .found) ≡ true → 5 ≡ tested t m p lets (cond (not (isLive p (routes (m .rules)))) 5 0)
-    not-live e = let shown = k .place zero .live in rw (← shown, e) (goes-to 5)
-
-    pub is-live : not (x .found) ≡ false → CheckedIs (m .rules) p (tested t m p lets (cond (not (isLive p (routes (m .rules)))) 5 0)) x
-    is-live e = let shown = k .place zero .live in rw (← shown, e) k
-
-    -- ---- refusal 6
+    pub let-pass : Admitted t c m
+    let-pass = tested-0 t c m 0 (sym (k .number) ∙ zero) .0
 
     -- no room, by the live rules and their number
-    full : not (x .found) && eqb (x .live) (length (m .rules)) ≡ not (isLive p (routes (m .rules))) && noZero (m .rules)
+    pub full : not (x .place .live) && eqb (x .live) (length (m .rules)) ≡ not (isLive p (routes (m .rules))) && noZero (m .rules)
     full = ap₂ (λ (a b : Bool). not a && b) (k .place zero .live) (all-live (m .rules) (x .live) (k .listed zero))
 
--- the tests of refusals 6 and 7
-abbrev pub no-room : Lent → Prefix → Bool
-no-room m p = not (isLive p (routes (m .rules))) && noZero (m .rules)
+-- refusal 5
+module _ (p : Prefix) (m : Lent) where
+  pub stops-at-5 : isLive p (routes (m .rules)) ≡ false → 5 ≡ unlessLive p m
+  unfolding unlessLive
+  stops-at-5 e = rw e
 
-abbrev pub no-segment : Prefix → Lent → Prefix → Bool
-no-segment t m p = needsSegment t m p && noZero (m .owners)
+  pub is-live : isLive p (routes (m .rules)) ≡ true → 0 ≡ unlessLive p m
+  unfolding unlessLive
+  is-live e = rw e
 
-pub needsSegment? : (t : Prefix) (m : Lent) (p : Prefix)
-    → Decides ((24 < p .length) × (getD (m .first) (blockOf t (p .address)) 0 < pointerBit)) (needsSegment t m p)
-unfolding needsSegment
-needsSegment? t m p =
-    iff? (and? (ltb? 24 (p .length)) (not? (leb? pointerBit (getD (m .first) (blockOf t (p .address)) 0))))
-    (λ h. (h .0, lt-of-not-le (h .1)))
-    (λ h. (h .0, λ l. omega (arith, h .1)))
+-- refusals 6 and 7
+module _ (t p : Prefix) (m : Lent) where
+  pub stops-at-6 : not (isLive p (routes (m .rules))) && noZero (m .rules) ≡ true → 6 ≡ unlessRoom t p m
+  unfolding unlessRoom
+  stops-at-6 e = rw e
 
--- x is what refusals 1 to 4 answered to an announce
-module _ (t : Prefix) (m : Lent) (r : Route) {x : Checked} (k : CheckedIs (m .rules) (r .prefix) (tested t m (r .prefix) (isRoute r) 0) x) where
-  pub announce-stays : ¬ (x .code ≡ 0) → CheckedIs (m .rules) (r .prefix) (announceCode t m r) x
-  unfolding announceCode
-  announce-stays n = stays t m (r .prefix) (isRoute r) k _ n
+  module _ (room : not (isLive p (routes (m .rules))) && noZero (m .rules) ≡ false) where
+    pub stops-at-7 : needsSegment t p (m .tables) ≡ true → noZero (m .tables .owners) ≡ true → 7 ≡ unlessRoom t p m
+    unfolding unlessRoom
+    stops-at-7 e f = rw (room, e, f)
 
-  -- f and g are what the tests of 6 and 7 answered
-  module _ (zero : x .code ≡ 0) {f : Bool} (is-full : f ≡ not (x .found) && eqb (x .live) (length (m .rules))) where
-    room : f ≡ no-room m (r .prefix)
-    room = is-full ∙ full t m (r .prefix) (isRoute r) k zero
-
-    pub announce-6 : f ≡ true → 6 ≡ announceCode t m r
-    unfolding announceCode
-    announce-6 e = rw (← room, e) (goes-to t m (r .prefix) (isRoute r) k zero 6)
-
-    module _ (e : f ≡ false) {g : Bool} (none : g ≡ no-segment t m (r .prefix)) where
-      pub announce-7 : g ≡ true → 7 ≡ announceCode t m r
-      unfolding announceCode
-      announce-7 h = rw (← room, e, ← none, h) (goes-to t m (r .prefix) (isRoute r) k zero 7)
-
-      pub announce-0 : g ≡ false → CheckedIs (m .rules) (r .prefix) (announceCode t m r) x
-      unfolding announceCode
-      announce-0 h = rw (← room, e, ← none, h) k
-
--- ---- what an update knows where its number is 0
-
--- a number that a test picks before another is not picked where the answer is 0
-none : (t : Bool) {k n : ℕ} → (k ≡ 0 → ⊥) → cond t k n ≡ 0 → (t ≡ false) × (n ≡ 0)
-none true f z = absurd (f z)
-none false f z = (refl, z)
-
--- a withdrawal or a re-homing: the prefix is live
-pub live-passed : (t : Prefix) (m : Lent) (p : Prefix) (lets : Bool) → tested t m p lets (cond (not (isLive p (routes (m .rules)))) 5 0) ≡ 0
-    → Passed t m p lets × (isLive p (routes (m .rules)) ≡ true)
-live-passed t m p lets z =
-    let k = passed t m p lets _ z in (k .0, not-false _ (none (not (isLive p (routes (m .rules)))) (λ e. omega arith) (k .1) .0))
-
--- an announce: the prefix is live or a rule word is free, and a segment that is needed is there
-pub announce-passed : (t : Prefix) (m : Lent) (r : Route) → announceCode t m r ≡ 0
-    → Passed t m (r .prefix) (isRoute r) × (no-room m (r .prefix) ≡ false) × (no-segment t m (r .prefix) ≡ false)
-unfolding announceCode
-announce-passed t m r z =
-    let k = passed t m (r .prefix) (isRoute r) _ z in
-    let room = none (no-room m (r .prefix)) (λ e. omega arith) (k .1) in
-    let segment = none (no-segment t m (r .prefix)) (λ e. omega arith) (room .1) in
-    (k .0, room .0, segment .0)
+    pub has-room : needsSegment t p (m .tables) && noZero (m .tables .owners) ≡ false → 0 ≡ unlessRoom t p m
+    unfolding unlessRoom
+    has-room e = rw (room, e)

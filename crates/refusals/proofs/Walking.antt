@@ -1,29 +1,22 @@
--- The walk along blocks and rules: where the cursor stands, which blocks are open, and what one turn shows. Assumes nothing.
+-- The cursor among the rules: where it stands, and which blocks are open. Assumes nothing.
 use mathlib.Core.Path.{_≡_, refl, sym, ap, subst, _∙_}
 use mathlib.Core.Logic.{_↔_, _⊎_, inl, inr}
-use mathlib.Core.Bool.{Bool, false, _||_, true≢false}
+use mathlib.Core.Bool.{Bool, false, _||_}
 use mathlib.Core.List.{List}
 use Prim.Native.Nat.{ℕ, _+_, _-_, _*_, _%_, _/_, _^_, _≤_, _<_}
 use native.Mathlib.Omega.{arith}
 use lib.Dec.{ltb}
 use lib.ListN.{getD}
 use borrow.Author.Count.{below-more}
-use Rattle.ground.proofs.Tests.{Decides, fails, ltb?, or?, iff?, stops, same-test}
-use Rattle.ground.proofs.Lists.{everyBelow?}
+use Rattle.ground.proofs.Tests.{Decides, fails, ltb?, or?, iff?, same-test}
 use Rattle.ground.proofs.Cases.{by-lt}
-use Rattle.prefix.specs.declared.Prefix.{Prefix}
 use Rattle.prefix.specs.Prefixes.{top}
 use Rattle.prefix.specs.Routes.{Route}
-use Rattle.prefix.specs.Price.{isOpen}
-use Rattle.prefix.specs.Geometry.{blocks, blockOf}
 use Rattle.prefix.proofs.Blocks.{Opened, opened?}
-use Rattle.cells.specs.Cells.{pointerBit}
 use Rattle.rules.specs.Words.{prefixOf, routeOf}
 use Rattle.rules.specs.Rules.{routes, Listed}
 use Rattle.rules.proofs.Indices.{routes-index, index-routes, listed-order}
-use Rattle.refusals.specs.Damage.{blockSound, blocksSound}
-use Rattle.refusals.specs.inner.Walk.{soundRun, Reached, StretchIs, PassedIs}
-use Rattle.refusals.proofs.Soundness.{Clean, CleanRun, clean-below, SoundBy, soundBy?}
+use Rattle.refusals.specs.inner.Walk.{Reached, StretchIs, PassedIs}
 
 -- ---- the cursor
 
@@ -133,77 +126,3 @@ passing-met ws n a at i opened s z p q e = record {
   where
     reached : Reached ws n (a + 256) i
     reached = reached-at s (q .within) (λ k l. omega (arith, q .below k l)) e
-
--- ---- one turn of the walk
-
--- the block is sound, in a territory whose address is `base`
-abbrev SoundAt : ℕ → List ℕ → List ℕ → List ℕ → List Route → ℕ → Type 0
-SoundAt base first long owners rs block = SoundBy first long owners block (isOpen rs (base + 256 * block))
-
-pub soundRun? : (base : ℕ) (first long owners : List ℕ) (rs : List Route) (from count : ℕ)
-    → Decides ((k : ℕ) → from ≤ k → k < from + count → SoundAt base first long owners rs k) (soundRun base first long owners rs from count)
-unfolding soundRun
-soundRun? base first long owners rs from count =
-    iff? (everyBelow? count _ (λ i. soundBy? first long owners (from + i) (isOpen rs (base + 256 * (from + i)))))
-    (λ h k l m. subst (SoundAt base first long owners rs) (omega arith) (h (k - from) (omega arith)))
-    (λ h i l. h (from + i) (omega arith) (omega arith))
-
--- the blocks of a prefix are such a run
-pub run-of : (t : Prefix) (first long owners : List ℕ) (rs : List Route) (p : Prefix) {x : Bool} {count : ℕ}
-    → x ≡ soundRun (t .address) first long owners rs (blockOf t (p .address)) count → count ≡ blocks p → x ≡ blocksSound t first long owners rs p
-unfolding blocksSound blockSound soundRun
-run-of t first long owners rs p e c = e ∙ ap (soundRun (t .address) first long owners rs (blockOf t (p .address))) c
-
--- the blocks from `from` to before `block` are sound, and the cursor stands at the start of `block`
-pub record Walked (base : ℕ) (first long owners ws : List ℕ) (n from block at : ℕ) : Type 0 where
-  pub forward : from ≤ block
-  pub reached : Reached ws n (base + 256 * block) at
-  pub sound : (k : ℕ) → from ≤ k → k < block → SoundAt base first long owners (routes ws) k
-
--- the next k blocks are before the next rule's
-module _ {base : ℕ} {first long owners ws : List ℕ} {n from block at left k : ℕ} (s : Listed ws n) (z : base % 256 ≡ 0)
-    (w : Walked base first long owners ws n from block at) (h : StretchIs ws n at (base + 256 * block) left k) where
-  -- they are closed
-  shut : (j : ℕ) → block ≤ j → j < block + k → isOpen (routes ws) (base + 256 * j) ≡ false
-  shut j l m =
-      stops (opened? 24 (routes ws) (base + 256 * j)) (λ o.
-      let i = open-between ws n (base + 256 * j) at at s (omega arith)
-      (reached-between ws n (base + 256 * block) (base + 256 * j) (base + 256 * block + 256 * k) at (omega arith) (omega arith) (w .reached) (h .reached))
-      (reached-between ws n (base + 256 * block) (base + 256 * j + 256) (base + 256 * block + 256 * k) at (omega arith) (omega arith) (w .reached) (h .reached))
-      .0 o in
-      omega (arith, i .1, i .2))
-
-  -- so they are sound exactly if their cells are clean
-  pub clean-run : ((j : ℕ) → block ≤ j → j < block + k → SoundAt base first long owners (routes ws) j) → CleanRun 24 first block k
-  clean-run all i l =
-      let b = all (block + i) (omega arith) (omega arith) in
-      by-lt (getD first (block + i) 0) pointerBit (λ other. b .other other .0) (λ pointer.
-      absurd (true≢false (sym (b .pointer pointer .1) ∙ shut (block + i) (omega arith) (omega arith))))
-
-  pub sound-run : CleanRun 24 first block k → (j : ℕ) → from ≤ j → j < block + k → SoundAt base first long owners (routes ws) j
-  sound-run clean j l m =
-      by-lt j block (w .sound j l) (λ past.
-      let i : block + (j - block) ≡ j = omega arith in
-      let c : Clean 24 (getD first j 0) = subst (λ (x : ℕ). Clean 24 (getD first x 0)) i (clean (j - block) (omega arith)) in
-      record { pointer = λ p. absurd (omega (arith, clean-below c)); other = λ o. (c, shut j past m) })
-
-  -- and of the block after them the rules say whether it is open
-  module _ {next : ℕ} {opened : Bool} (p : PassedIs ws n (base + 256 * block + 256 * k) next opened) where
-    start : base + 256 * block + 256 * k ≡ base + 256 * (block + k)
-    start = omega arith
-
-    opened-is : opened ≡ isOpen (routes ws) (base + 256 * (block + k))
-    opened-is = p .opened ∙ ap (isOpen (routes ws)) start
-
-    pub sound-here : SoundAt base first long owners (routes ws) (block + k) → SoundBy first long owners (block + k) opened
-    sound-here b = subst (SoundBy first long owners (block + k)) (sym opened-is) b
-
-    -- the walk goes on with the block after that one
-    pub walked-on : {on : ℕ} → on ≡ block + k + 1 → CleanRun 24 first block k → SoundBy first long owners (block + k) opened
-        → Walked base first long owners ws n from on next
-    walked-on e clean b = record {
-      forward = omega (arith, w .forward);
-      reached = subst (λ (a : ℕ). Reached ws n a next) (omega arith) (p .reached);
-      sound = λ j l m. by-lt j (block + k) (sound-run clean j l) (λ past.
-          subst (SoundAt base first long owners (routes ws)) (omega arith) (subst (SoundBy first long owners (block + k)) opened-is b));
-    }

@@ -1,40 +1,46 @@
 // The number that each update answers: the tests in their order, and the first that holds refuses.
 ghost use mathlib.Core.Path.{_≡_};
-ghost use mathlib.Core.Bool.{true, not, _&&_, cond};
-ghost use Prim.Native.Nat.{_≤_, _<_};
-ghost use lib.Dec.{ltb, eqb};
-ghost use lib.ListN.{length, getD};
-ghost use Rattle.prefix.specs.Prefixes.{WellFormed};
+ghost use mathlib.Core.Bool.{true, not, _&&_};
+ghost use lib.Dec.{eqb};
+ghost use Rattle.prefix.specs.Prefixes.{WellFormed, Encloses};
 ghost use Rattle.prefix.specs.Routes.{isRoute};
-ghost use Rattle.cells.specs.Cells.{isPointer};
-ghost use Rattle.prefix.specs.Geometry.{blockOf};
 ghost use Rattle.rules.specs.Words.{routeBy};
-ghost use Rattle.rules.specs.Rules.{routes, isLive};
-ghost use Rattle.cells.specs.Memory.{memory, lowestFree};
-ghost use Rattle.refusals.specs.Codes.{noZero, tested, announceCode, withdrawCode, reHomeCode, clearCode, refusedBy, CheckedIs};
+ghost use Rattle.cells.specs.Memory.{IsLent, lent, lentIn};
+ghost use Rattle.refusals.specs.Codes.{announces, withdraws, re-homes, clearCode};
+ghost use Rattle.refusals.specs.inner.Checks.{CheckedIs, Told, unlessDamaged, none, TestsTell, LiveTestsTell};
 use crate::damage::blocks_sound;
 use cells::cell::Cell;
+use cells::segments::free_segment;
+use cells::segments::needs_segment;
 use cells::sizes::lent;
 use prefix::Prefix;
+use prefix::geometry::Blocks;
+use prefix::geometry::touched;
 use rules::form::form_of;
+use rules::list::Place;
 use rules::list::find;
 
-// A refusal's number, or 0; with 0, how many rules are live, where the prefix stands among them or would stand, and whether it is live.
+// A refusal's number, or 0; with 0, how many rules are live, where the prefix stands among them, the blocks that it touches, whether a
+// segment is opened for it, and which.
 pub struct Checked {
     pub code: u32,
     pub live: usize,
-    pub at: usize,
-    pub found: bool,
+    pub place: Place,
+    pub blocks: Blocks,
+    pub opens: bool,
+    pub segment: usize,
 }
 
 fn refused(code: u32) -> Checked
-    ensures { λ r. ⌜ r ≡ refusedBy code ⌝ }
+    ensures { λ r. ⌜ r .code ≡ code ⌝ }
 {
     Checked {
         code,
         live: 0,
-        at: 0,
-        found: false,
+        place: Place { at: 0, live: false },
+        blocks: Blocks { from: 0, count: 0 },
+        opens: false,
+        segment: 0,
     }
 }
 
@@ -51,7 +57,40 @@ fn is_route(prefix: Prefix, hop: u32) -> bool
     prefix.well_formed()
 }
 
-// Refusals 1 to 4, where `lets` says whether refusal 2 lets the numbers pass. Past them the prefix is looked for in the list.
+// Refusal 4. Past it the prefix is looked for in the list.
+fn undamaged(
+    first: &[u32],
+    long: &[u32],
+    owners: &[u32],
+    rules: &[u64],
+    territory: Prefix,
+    prefix: Prefix,
+) -> Checked
+    requires { ⌜ IsLent (lent first long owners rules) territory ⌝ }
+    requires { ⌜ WellFormed prefix × Encloses territory prefix ⌝ }
+    ensures { λ r. ⌜ Told territory prefix (unlessDamaged territory prefix) none (lentIn first long owners rules) r ⌝ }
+{
+    let form = form_of(rules, territory);
+    let live = form.live;
+    if !form.formed {
+        return refused(4);
+    }
+    let blocks = touched(territory, prefix);
+    if !blocks_sound(first, long, owners, rules, live, territory, blocks) {
+        return refused(4);
+    }
+    let place = find(rules, live, prefix);
+    Checked {
+        code: 0,
+        live,
+        place,
+        blocks,
+        opens: false,
+        segment: 0,
+    }
+}
+
+// Refusals 1 to 4, where `lets` says whether refusal 2 lets the numbers pass.
 fn tests(
     first: &[u32],
     long: &[u32],
@@ -62,7 +101,7 @@ fn tests(
     lets: bool,
 ) -> Checked
     requires { ⌜ (lets ≡ true → WellFormed prefix) ⌝ }
-    ensures { λ r. ⌜ CheckedIs (now (rules .entry)) prefix (tested territory (memory (now (first .entry)) (now (long .entry)) (now (owners .entry)) (now (rules .entry))) prefix lets 0) r ⌝ }
+    ensures { λ r. ⌜ TestsTell territory prefix lets (lentIn first long owners rules) r ⌝ }
 {
     if !lent(
         first.len(),
@@ -79,23 +118,10 @@ fn tests(
     if !territory.encloses(prefix) {
         return refused(3);
     }
-    let form = form_of(rules, territory);
-    if !form.formed {
-        return refused(4);
-    }
-    if !blocks_sound(first, long, owners, rules, form.live, territory, prefix) {
-        return refused(4);
-    }
-    let place = find(rules, form.live, prefix);
-    Checked {
-        code: 0,
-        live: form.live,
-        at: place.at,
-        found: place.live,
-    }
+    undamaged(first, long, owners, rules, territory, prefix)
 }
 
-// Refusals 1 to 5: of an update of a live prefix.
+// Refusals 1 to 5: of an update of a live prefix. Its block has a segment, if it is longer than 24, since nothing is damaged.
 fn live_tests(
     first: &[u32],
     long: &[u32],
@@ -106,13 +132,13 @@ fn live_tests(
     lets: bool,
 ) -> Checked
     requires { ⌜ (lets ≡ true → WellFormed prefix) ⌝ }
-    ensures { λ r. ⌜ CheckedIs (now (rules .entry)) prefix (tested territory (memory (now (first .entry)) (now (long .entry)) (now (owners .entry)) (now (rules .entry))) prefix lets (cond (not (isLive prefix (routes (now (rules .entry))))) 5 0)) r ⌝ }
+    ensures { λ r. ⌜ LiveTestsTell territory prefix lets (lentIn first long owners rules) r ⌝ }
 {
     let checked = tests(first, long, owners, rules, territory, prefix, lets);
     if checked.code != 0 {
         return checked;
     }
-    if !checked.found {
+    if !checked.place.live {
         return refused(5);
     }
     checked
@@ -128,43 +154,6 @@ fn is_full(found: bool, live: usize, words: usize) -> bool
     live == words
 }
 
-// The lowest free segment, or how many segments there are.
-pub fn free_segment(owners: &[u32]) -> usize
-    ensures { λ r. ⌜ r ≡ lowestFree (now (owners .entry)) ⌝ }
-{
-    let mut i = 0;
-    while i < owners.len() {
-        if owners[i] == 0 {
-            return i;
-        }
-        i += 1;
-    }
-    i
-}
-
-// Whether the prefix is longer than 24 and its block has no segment.
-pub fn needs_segment(first: &[u32], territory: Prefix, prefix: Prefix) -> bool
-    requires { ⌜ (territory .address ≤ prefix .address) × (blockOf territory (prefix .address) < length (now first)) ⌝ }
-    ensures { λ r. ⌜ r ≡ (ltb 24 (prefix .length) && not (isPointer (getD (now (first .entry)) (blockOf territory (prefix .address)) 0))) ⌝ }
-{
-    if prefix.length <= 24 {
-        return false;
-    }
-    let block = ((prefix.address - territory.address) / 256) as usize;
-    first[block] < Cell::POINTER
-}
-
-// Whether the prefix needs a segment and none is free.
-fn no_segment(first: &[u32], owners: &[u32], territory: Prefix, prefix: Prefix) -> bool
-    requires { ⌜ (territory .address ≤ prefix .address) × (blockOf territory (prefix .address) < length (now first)) ⌝ }
-    ensures { λ r. ⌜ r ≡ (ltb 24 (prefix .length) && not (isPointer (getD (now (first .entry)) (blockOf territory (prefix .address)) 0)) && noZero (now (owners .entry))) ⌝ }
-{
-    if !needs_segment(first, territory, prefix) {
-        return false;
-    }
-    free_segment(owners) == owners.len()
-}
-
 // The refusal of an announce: 1 to 4, 6 and 7.
 pub fn announce_checked(
     first: &[u32],
@@ -175,7 +164,7 @@ pub fn announce_checked(
     prefix: Prefix,
     hop: u32,
 ) -> Checked
-    ensures { λ r. ⌜ CheckedIs (now (rules .entry)) prefix (announceCode territory (memory (now (first .entry)) (now (long .entry)) (now (owners .entry)) (now (rules .entry))) (routeBy prefix hop)) r ⌝ }
+    ensures { λ r. ⌜ CheckedIs territory (announces (routeBy prefix hop)) (lentIn first long owners rules) r ⌝ }
 {
     let checked = tests(
         first,
@@ -189,13 +178,27 @@ pub fn announce_checked(
     if checked.code != 0 {
         return checked;
     }
-    if is_full(checked.found, checked.live, rules.len()) {
+    let place = checked.place;
+    if is_full(place.live, checked.live, rules.len()) {
         return refused(6);
     }
-    if no_segment(first, owners, territory, prefix) {
+    let blocks = checked.blocks;
+    let block = blocks.from;
+    if !needs_segment(first[block], prefix.length) {
+        return checked;
+    }
+    let segment = free_segment(owners);
+    if segment == owners.len() {
         return refused(7);
     }
-    checked
+    Checked {
+        code: checked.code,
+        live: checked.live,
+        place,
+        blocks,
+        opens: true,
+        segment,
+    }
 }
 
 // The refusal of a withdrawal: 1 to 5.
@@ -207,7 +210,7 @@ pub fn withdraw_checked(
     territory: Prefix,
     prefix: Prefix,
 ) -> Checked
-    ensures { λ r. ⌜ CheckedIs (now (rules .entry)) prefix (withdrawCode territory (memory (now (first .entry)) (now (long .entry)) (now (owners .entry)) (now (rules .entry))) prefix) r ⌝ }
+    ensures { λ r. ⌜ CheckedIs territory (withdraws prefix) (lentIn first long owners rules) r ⌝ }
 {
     live_tests(
         first,
@@ -230,7 +233,7 @@ pub fn re_home_checked(
     prefix: Prefix,
     hop: u32,
 ) -> Checked
-    ensures { λ r. ⌜ CheckedIs (now (rules .entry)) prefix (reHomeCode territory (memory (now (first .entry)) (now (long .entry)) (now (owners .entry)) (now (rules .entry))) (routeBy prefix hop)) r ⌝ }
+    ensures { λ r. ⌜ CheckedIs territory (re-homes (routeBy prefix hop)) (lentIn first long owners rules) r ⌝ }
 {
     live_tests(
         first,
@@ -251,7 +254,7 @@ pub fn clear_checked(
     rules: &[u64],
     territory: Prefix,
 ) -> u32
-    ensures { λ r. ⌜ r ≡ clearCode territory (memory (now (first .entry)) (now (long .entry)) (now (owners .entry)) (now (rules .entry))) ⌝ }
+    ensures { λ r. ⌜ r ≡ clearCode territory (lentIn first long owners rules) ⌝ }
 {
     if lent(
         first.len(),

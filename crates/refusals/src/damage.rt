@@ -1,19 +1,21 @@
 // Damage, refusal 4 of an update: one walk along the blocks that the prefix touches and the rules that lie in them.
 ghost use mathlib.Core.Path.{_≡_};
 ghost use mathlib.Core.Bool.{_||_};
-ghost use Prim.Native.Nat.{_+_, _-_, _*_, _^_, _%_, _<_, _≤_};
+ghost use Prim.Native.Nat.{_+_, _*_, _^_, _%_, _<_, _≤_};
 ghost use lib.Dec.{ltb};
 ghost use lib.ListN.{length};
-ghost use Rattle.prefix.specs.Prefixes.{WellFormed, Encloses};
 ghost use Rattle.prefix.specs.Price.{isOpen};
+ghost use Rattle.prefix.specs.Geometry.{width, blockSize};
 ghost use Rattle.rules.specs.Words.{prefixOf};
 ghost use Rattle.rules.specs.Rules.{routes, Listed};
-ghost use Rattle.cells.specs.Memory.{LentToUpdate};
-ghost use Rattle.refusals.specs.Damage.{isClean, segmentSound, soundBy, blocksSound};
-ghost use Rattle.refusals.specs.inner.Walk.{cleanRun, soundRun, Reached, StretchIs, PassedIs, MayWalk};
+ghost use Rattle.cells.specs.Memory.{tables, tablesIn, Sized};
+ghost use Rattle.refusals.specs.Damage.{isClean, segmentSound, soundBy};
+ghost use Rattle.refusals.specs.inner.Walk.{cleanRun, longIn, soundRun, Reached, StretchIs, PassedIs, BlocksLent, MayWalk};
 use cells::cell::Cell;
 use prefix::Prefix;
-use prefix::geometry::blocks_of;
+use prefix::geometry::Block;
+use prefix::geometry::Blocks;
+use prefix::geometry::block_start;
 use rules::list::position;
 use rules::word::Rule;
 
@@ -44,8 +46,8 @@ fn clean_run(cells: &[u32], longest: u32, from: usize, count: usize) -> bool
 
 // Whether the segment is lent, the block owns it, and each of its cells is 0 or direct.
 fn segment_sound(long: &[u32], owners: &[u32], block: usize, segment: usize) -> bool
-    requires { ⌜ (length (now long) ≡ 256 * length (now owners)) × (block < 2 ^ 24) ⌝ }
-    ensures { λ r. ⌜ r ≡ segmentSound (now (long .entry)) (now (owners .entry)) block segment ⌝ }
+    requires { ⌜ (length (now long) ≡ blockSize * length (now owners)) × (block < 2 ^ width) ⌝ }
+    ensures { λ r. ⌜ r ≡ segmentSound (longIn long owners) block segment ⌝ }
 {
     if owners.len() <= segment {
         return false;
@@ -53,25 +55,25 @@ fn segment_sound(long: &[u32], owners: &[u32], block: usize, segment: usize) -> 
     if owners[segment] as usize != block + 1 {
         return false;
     }
-    clean_run(long, 32, segment * 256, 256)
+    clean_run(long, 32, segment * Block::CELLS, Block::CELLS)
 }
 
 // Whether the block is sound, where `opened` says that a live prefix longer than 24 lies in it.
 fn block_sound(first: &[u32], long: &[u32], owners: &[u32], block: usize, opened: bool) -> bool
-    requires { ⌜ (length (now long) ≡ 256 * length (now owners)) × (block < 2 ^ 24) × (block < length (now first)) ⌝ }
-    ensures { λ r. ⌜ r ≡ soundBy (now (first .entry)) (now (long .entry)) (now (owners .entry)) block opened ⌝ }
+    requires { ⌜ (length (now long) ≡ blockSize * length (now owners)) × (block < 2 ^ width) × (block < length (now first)) ⌝ }
+    ensures { λ r. ⌜ r ≡ soundBy (tablesIn first long owners) block opened ⌝ }
 {
     let cell = first[block];
-    if cell < Cell::POINTER {
+    if !Cell::is_pointer(cell) {
         if opened {
             return false;
         }
-        return is_clean(cell, 24);
+        return is_clean(cell, Block::WIDTH);
     }
     if !opened {
         return false;
     }
-    segment_sound(long, owners, block, (cell - Cell::POINTER) as usize)
+    segment_sound(long, owners, block, Cell::segment(cell))
 }
 
 // A place in the list of live rules, and whether a rule longer than 24 was passed on the way to it.
@@ -126,46 +128,36 @@ fn stretch(rules: &[u64], live: usize, at: usize, start: u64, left: usize) -> us
     ahead
 }
 
-// How many blocks a prefix of this length touches.
-fn touched(length: u32) -> usize
-    ensures { λ r. ⌜ r ≡ 2 ^ (24 - length) ⌝ }
-{
-    if 24 < length {
-        return 1;
-    }
-    blocks_of(length)
-}
-
-// Whether each of `count` blocks is sound, from the block `from` on, at whose start the cursor stands. A turn goes along the blocks up to
-// that of the next rule, which are closed, and over that one.
+// Whether each of the blocks is sound; the cursor stands where the first of them starts. A turn goes along the blocks up to that of the
+// next rule, which are closed, and over that one.
 fn walk(
     first: &[u32],
     long: &[u32],
     owners: &[u32],
     rules: &[u64],
     live: usize,
-    base: u32,
-    from: usize,
-    count: usize,
+    territory: Prefix,
+    blocks: Blocks,
     at: usize,
 ) -> bool
-    requires { ⌜ MayWalk (now first) (now long) (now owners) (now rules) live base from count at ⌝ }
-    ensures { λ r. ⌜ r ≡ soundRun base (now (first .entry)) (now (long .entry)) (now (owners .entry)) (routes (now (rules .entry))) from count ⌝ }
+    requires { ⌜ MayWalk territory blocks (tables first long owners) (now rules) live at ⌝ }
+    ensures { λ r. ⌜ r ≡ soundRun territory blocks (routes (now (rules .entry))) (tablesIn first long owners) ⌝ }
 {
-    let end = from + count;
-    let mut block = from;
+    let end = blocks.from + blocks.count;
+    let mut block = blocks.from;
     let mut here = at;
     while block < end {
-        let start = base as u64 + 256 * (block as u64);
-        let closed = stretch(rules, live, here, start, end - block);
-        if !clean_run(first, 24, block, closed) {
+        let start = block_start(territory, block);
+        let closed = stretch(rules, live, here, start as u64, end - block);
+        if !clean_run(first, Block::WIDTH, block, closed) {
             return false;
         }
         let stop = block + closed;
         if stop == end {
             return true;
         }
-        let cursor = pass(rules, live, here, start + 256 * (closed as u64));
+        let next = block_start(territory, stop);
+        let cursor = pass(rules, live, here, next as u64);
         if !block_sound(first, long, owners, stop, cursor.opened) {
             return false;
         }
@@ -193,7 +185,7 @@ pub fn is_open(rules: &[u64], live: usize, start: u32) -> bool
     passed.opened
 }
 
-// Whether each block that the prefix touches is sound.
+// The same, with the cursor yet to be set.
 pub fn blocks_sound(
     first: &[u32],
     long: &[u32],
@@ -201,32 +193,16 @@ pub fn blocks_sound(
     rules: &[u64],
     live: usize,
     territory: Prefix,
-    prefix: Prefix,
+    blocks: Blocks,
 ) -> bool
-    requires { ⌜ LentToUpdate (length (now first)) (length (now long)) (length (now owners)) (length (now rules)) territory ⌝ }
+    requires { ⌜ Sized territory (tables first long owners) × BlocksLent blocks (tables first long owners) ⌝ }
     requires { ⌜ Listed (now rules) live ⌝ }
-    requires { ⌜ WellFormed prefix × Encloses territory prefix ⌝ }
-    ensures { λ r. ⌜ r ≡ blocksSound territory (now (first .entry)) (now (long .entry)) (now (owners .entry)) (routes (now (rules .entry))) prefix ⌝ }
+    ensures { λ r. ⌜ r ≡ soundRun territory blocks (routes (now (rules .entry))) (tablesIn first long owners) ⌝ }
 {
-    let base = territory.address;
-    let block = (prefix.address - base) / 256;
-    let at = position(
-        rules,
-        live,
-        Rule::key_of(Prefix {
-            address: base + 256 * block,
-            length: 0,
-        }),
-    );
-    walk(
-        first,
-        long,
-        owners,
-        rules,
-        live,
-        base,
-        block as usize,
-        touched(prefix.length),
-        at,
-    )
+    let start = Prefix {
+        address: block_start(territory, blocks.from),
+        length: 0,
+    };
+    let at = position(rules, live, Rule::key_of(start));
+    walk(first, long, owners, rules, live, territory, blocks, at)
 }

@@ -1,21 +1,35 @@
 -- `codes::announce_checked` meets its contract: what the tests answered stands, unless all let pass and there is no room in the list, or
--- else no segment for the block. Assumes nothing.
-use mathlib.Core.Path.{sym, ap, _∙_}
-use mathlib.Core.Bool.{Bool}
+-- else no segment for the block; a segment that is needed is the lowest free one. Assumes nothing.
+use mathlib.Core.Path.{_≡_, refl, sym, ap, ap₂, _∙_}
+use mathlib.Core.Bool.{Bool, not, _&&_}
+use Prim.Native.Nat.{ℕ, _<_}
 use native.Mathlib.Omega.{arith}
-use Rattle.ground.proofs.Tests.{says}
-use Rattle.prefix.specs.Routes.{Route, isRoute}
+use lib.Dec.{ltb}
+use lib.ListN.{length, getD}
+use borrow.Author.Tests.{not-true, not-false}
+use Rattle.ground.proofs.Tests.{says, passes, stops}
+use Rattle.prefix.specs.declared.geometry.Blocks.{Blocks}
+use Rattle.prefix.specs.Geometry.{width}
+use Rattle.prefix.specs.Routes.{Route, puts, isChange}
 use Rattle.prefix.proofs.Best.{isRoute?}
+use Rattle.prefix.proofs.Spans.{block-inside}
+use Rattle.cells.specs.Cells.{isPointer}
+use Rattle.cells.specs.Memory.{Lent, noZero, needsSegment}
+use Rattle.cells.proofs.FreeSegments.{noZero?}
 use Rattle.rules.specs.Words.{routeBy}
-use Rattle.cells.specs.Memory.{Lent, memory}
-use Rattle.refusals.specs.Codes.{needsSegment, tested, CheckedIs}
-use Rattle.refusals.proofs.Refusing.{block-lent, refused-is, checked-as, let-pass, announce-stays, announce-6, announce-7, announce-0}
+use Rattle.rules.specs.Rules.{routes, isLive}
+use Rattle.refusals.specs.Codes.{tested, unlessRoom, code}
+use Rattle.refusals.specs.inner.Checks.{Told, none}
+use Rattle.refusals.proofs.Refusing.{refused-is, told-as, stays, goes-on, let-pass, full, stops-at-6, stops-at-7, has-room}
 use borrow.Author.Needs.{needs}
 use Rattle.refusals.proofs.codes.announce_checked.Statement.{statement}
 use Rattle.refusals.proofs.codes.announce_checked.Tie as tie
 
 abbrev lent-of : tie.Start → Lent
-lent-of s = memory (s .args .first .now) (s .args .long .now) (s .args .owners .now) (s .args .rules .now)
+lent-of s = record {
+  tables = record { first = s .args .first .now; long = s .args .long .now; owners = s .args .owners .now };
+  rules = s .args .rules .now;
+}
 
 abbrev route : tie.Start → Route
 route s = routeBy (s .args .prefix) (s .args .hop)
@@ -26,15 +40,15 @@ is-route-requires c κs = search needs
 tests-requires : tie.Need-tests-requires
 tests-requires c κs = λ e. says (isRoute? (route (c .before .before .before .before .before))) (sym (c .is-route .ensures) ∙ e) .formed
 
--- what the tests answered, with refusal 2 as the paper has it
+-- what the tests answered
 told : (c : tie.After-tests) → let s = c .before .before .before .before .before .before in
-    CheckedIs (s .args .rules .now) (s .args .prefix) (tested (s .args .territory) (lent-of s) (s .args .prefix) (isRoute (route s)) 0) (c .tests .result)
-told c =
-    let s = c .before .before .before .before .before .before in
-    checked-as (ap (λ (b : Bool). tested (s .args .territory) (lent-of s) (s .args .prefix) b 0) (c .before .is-route .ensures)) (c .tests .ensures)
+    Told (s .args .territory) (s .args .prefix) (λ m. tested (s .args .territory) (puts (route s)) m 0) none (lent-of s) (c .tests .result)
+unfolding isChange
+told c = c .tests .ensures (puts (route (c .before .before .before .before .before .before))) (record { names = refl; numbers = c .before .is-route .ensures })
 
 returns : tie.Need-returns
-returns c = let s = c .before .before .before .before .before .before .before .before in announce-stays (s .args .territory) (lent-of s) (route s) (told (c .before .before)) (c .if1 .taken)
+unfolding code
+returns c = let s = c .before .before .before .before .before .before .before .before in stays (puts (route s)) (told (c .before .before)) (unlessRoom (s .args .territory) (s .args .prefix)) (c .if1 .taken)
 
 is-full-requires : tie.Need-is-full-requires
 is-full-requires c κs = search needs
@@ -42,36 +56,88 @@ is-full-requires c κs = search needs
 refused-requires : tie.Need-refused-requires
 refused-requires c κs = search needs
 
-returns-2 : tie.Need-returns-2
-returns-2 c =
-    let s = c .before .before .before .before .before .before .before .before .before .before .before in
-    refused-is (c .refused .ensures)
-    (announce-6 (s .args .territory) (lent-of s) (route s) (told (c .before .before .before .before .before)) (c .before .before .before .if1 .left) (c .before .before .is-full .ensures) (c .before .if2 .taken))
-    (omega arith) (λ z. omega arith)
+-- the test of refusal 6
+no-room : (c : tie.After-is-full) → let s = c .before .before .before .before .before .before .before .before .before .before .args in c .is-full .result ≡ (not (isLive (s .prefix) (routes (s .rules .now))) && noZero (s .rules .now))
+no-room c = c .is-full .ensures ∙ full (puts (route (c .before .before .before .before .before .before .before .before .before .before))) (told (c .before .before .before .before)) (c .before .before .if1 .left)
 
-no-segment-requires : tie.Need-no-segment-requires
-no-segment-requires c κs =
-    let s = c .before .before .before .before .before .before .before .before .before .before in
-    block-lent (let-pass (s .args .territory) (lent-of s) (s .args .prefix) (isRoute (route s)) (told (c .before .before .before .before)) (c .before .before .if1 .left))
+returns-2 : tie.Need-returns-2
+unfolding code
+returns-2 c =
+    let s = c .before .before .before .before .before .before .before .before .before .before .before .before in
+    refused-is (goes-on (puts (route s)) (told (c .before .before .before .before .before .before)) (c .before .before .before .before .if1 .left) (stops-at-6 (s .args .territory) (s .args .prefix) (lent-of s) (sym (no-room (c .before .before)) ∙ c .before .if2 .taken)))
+    (omega (arith, c .refused .ensures)) (λ z. omega arith)
+
+-- the block has a cell
+cell-lent : (c : tie.Else1) → c .before .before .tests .result .blocks .from < length (c .before .before .before .before .before .before .before .before .args .first .now)
+cell-lent c =
+    let k = let-pass (puts (route (c .before .before .before .before .before .before .before .before))) (told (c .before .before)) (c .if1 .left) in
+    omega (arith, ap (λ (b : Blocks). b .from) (told (c .before .before) .blocks (c .if1 .left)), block-inside (k .lent .sized .territory) (k .inside .inside), k .lent .sized .firsts)
+
+mul-needs-segment : tie.Need-mul-needs-segment
+mul-needs-segment c = omega (arith, cell-lent (c .before .before .before .before))
+
+shared-slice-read-needs-segment : tie.Need-shared-slice-read-needs-segment
+shared-slice-read-needs-segment c = omega (arith, cell-lent (c .before .before .before .before .before))
+
+needs-segment-requires : tie.Need-needs-segment-requires
+needs-segment-requires c κs = search needs
+
+-- the test of a segment
+needed : (c : tie.After-needs-segment) → let s = c .before .before .before .before .before .before .before .before .before .before .before .before .before .before in c .needs-segment .result ≡ needsSegment (s .args .territory) (s .args .prefix) (lent-of s .tables)
+unfolding needsSegment
+needed c =
+    let s = c .before .before .before .before .before .before .before .before .before .before .before .before .before .before .args in
+    c .needs-segment .ensures
+    ∙ ap (λ (b : Blocks). ltb width (s .prefix .length) && not (isPointer (getD (s .first .now) (b .from) 0))) (told (c .before .before .before .before .before .before .before .before) .blocks (c .before .before .before .before .before .before .if1 .left))
+
+returns-3 : tie.Need-returns-3
+unfolding code
+returns-3 c =
+    let s = c .before .before .before .before .before .before .before .before .before .before .before .before .before .before .before in
+    let t = s .args .territory in
+    let p = s .args .prefix in
+    let no = sym (needed (c .before)) ∙ not-true _ (c .if3 .taken) in
+    told-as (told (c .before .before .before .before .before .before .before .before .before))
+    (ap (tested t (puts (route s)) (lent-of s)) (has-room t p (lent-of s) (sym (no-room (c .before .before .before .before .before)) ∙ c .before .before .before .before .if2 .left) (ap (λ (b : Bool). b && noZero (s .args .owners .now)) no)))
+    (λ z. sym no)
+
+free-segment-requires : tie.Need-free-segment-requires
+free-segment-requires c κs = search needs
 
 refused-requires-2 : tie.Need-refused-requires-2
 refused-requires-2 c κs = search needs
 
-returns-3 : tie.Need-returns-3
-unfolding needsSegment
-returns-3 c =
-    let s = c .before .before .before .before .before .before .before .before .before .before .before .before .before in
-    refused-is (c .refused2 .ensures)
-    (announce-7 (s .args .territory) (lent-of s) (route s) (told (c .before .before .before .before .before .before .before)) (c .before .before .before .before .before .if1 .left) (c .before .before .before .before .is-full .ensures) (c .before .before .before .if2 .left)
-    (c .before .before .no-segment .ensures) (c .before .if3 .taken))
-    (omega arith) (λ z. omega arith)
-
 returns-4 : tie.Need-returns-4
-unfolding needsSegment
+unfolding code
 returns-4 c =
-    let s = c .before .before .before .before .before .before .before .before .before .before .before .before in
-    announce-0 (s .args .territory) (lent-of s) (route s) (told (c .before .before .before .before .before .before)) (c .before .before .before .before .if1 .left) (c .before .before .before .is-full .ensures) (c .before .before .if2 .left)
-    (c .before .no-segment .ensures) (c .if3 .left)
+    let s = c .before .before .before .before .before .before .before .before .before .before .before .before .before .before .before .before .before .before in
+    let t = s .args .territory in
+    let p = s .args .prefix in
+    let owners = s .args .owners .now in
+    refused-is
+    (goes-on (puts (route s)) (told (c .before .before .before .before .before .before .before .before .before .before .before .before)) (c .before .before .before .before .before .before .before .before .before .before .if1 .left)
+    (stops-at-7 t p (lent-of s) (sym (no-room (c .before .before .before .before .before .before .before .before)) ∙ c .before .before .before .before .before .before .before .if2 .left) (sym (needed (c .before .before .before .before)) ∙ not-false _ (c .before .before .before .if3 .left))
+    (passes (noZero? owners) (omega (arith, c .before .before .free-segment .ensures)))))
+    (omega (arith, c .refused2 .ensures)) (λ z. omega arith)
+
+returns-5 : tie.Need-returns-5
+unfolding code
+returns-5 c =
+    let s = c .before .before .before .before .before .before .before .before .before .before .before .before .before .before .before .before .before in
+    let t = s .args .territory in
+    let p = s .args .prefix in
+    let owners = s .args .owners .now in
+    let k = told (c .before .before .before .before .before .before .before .before .before .before .before) in
+    let yes = sym (needed (c .before .before .before)) ∙ not-false _ (c .before .before .if3 .left) in
+    let free = stops (noZero? owners) (λ e. c .if4 .left (omega (arith, c .before .free-segment .ensures))) in
+    record {
+      number = k .number ∙ ap (tested t (puts (route s)) (lent-of s)) (has-room t p (lent-of s) (sym (no-room (c .before .before .before .before .before .before .before)) ∙ c .before .before .before .before .before .before .if2 .left) (ap₂ _&&_ yes free));
+      listed = k .listed;
+      place = k .place;
+      blocks = k .blocks;
+      opens = λ z. sym yes;
+      segment = λ z e. c .before .free-segment .ensures;
+    }
 
 pub announce-checked-spec : {M : Type 1} → statement M
 announce-checked-spec =
@@ -83,7 +149,11 @@ announce-checked-spec =
     is-full-requires
     refused-requires
     returns-2
-    no-segment-requires
-    refused-requires-2
+    mul-needs-segment
+    shared-slice-read-needs-segment
+    needs-segment-requires
     returns-3
-    returns-4)
+    free-segment-requires
+    refused-requires-2
+    returns-4
+    returns-5)

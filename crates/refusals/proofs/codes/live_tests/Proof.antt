@@ -1,36 +1,52 @@
 -- `codes::live_tests` meets its contract: what the tests answered stands, unless all let pass and the prefix is not live. Assumes nothing.
+use mathlib.Core.Path.{_≡_, sym, ap, subst, _∙_}
+use mathlib.Core.Bool.{true, false}
 use native.Mathlib.Omega.{arith}
-use Rattle.cells.specs.Memory.{Lent, memory}
-use Rattle.refusals.proofs.Refusing.{refused-is, stays, not-live, is-live}
+use borrow.Author.Tests.{not-true, not-false}
+use Rattle.prefix.specs.declared.Prefix.{Prefix}
+use Rattle.cells.specs.Memory.{Lent, needsSegment}
+use Rattle.rules.specs.Rules.{routes, isLive}
+use Rattle.refusals.specs.Codes.{tested, unlessLive}
+use Rattle.refusals.proofs.Refusing.{refused-is, told-as, stays, goes-on, let-pass, stops-at-5, is-live, live-needs-none}
 use borrow.Author.Needs.{needs}
 use Rattle.refusals.proofs.codes.live_tests.Statement.{statement}
 use Rattle.refusals.proofs.codes.live_tests.Tie as tie
 
 abbrev lent-of : tie.Start → Lent
-lent-of s = memory (s .args .first .now) (s .args .long .now) (s .args .owners .now) (s .args .rules .now)
+lent-of s = record {
+  tables = record { first = s .args .first .now; long = s .args .long .now; owners = s .args .owners .now };
+  rules = s .args .rules .now;
+}
 
 tests-requires : tie.Need-tests-requires
 tests-requires c κs = search needs
 
 returns : tie.Need-returns
-returns c =
-    let s = c .before .before .before .before .before .before .before in
-    stays (s .args .territory) (lent-of s) (s .args .prefix) (s .args .lets) (c .before .before .tests .ensures) _ (c .if1 .taken)
+returns c = λ ch a. stays ch (c .before .before .tests .ensures ch a) (unlessLive (c .before .before .before .before .before .before .before .args .prefix)) (c .if1 .taken)
 
 refused-requires : tie.Need-refused-requires
 refused-requires c κs = search needs
 
 returns-2 : tie.Need-returns-2
-returns-2 c =
+returns-2 c = λ ch a.
     let s = c .before .before .before .before .before .before .before .before .before .before in
-    refused-is (c .refused .ensures)
-    (not-live (s .args .territory) (lent-of s) (s .args .prefix) (s .args .lets) (c .before .before .before .before .before .tests .ensures) (c .before .before .before .if1 .left) (c .before .if2 .taken))
-    (omega arith) (λ z. omega arith)
+    let k = c .before .before .before .before .before .tests .ensures ch a in
+    let zero = c .before .before .before .if1 .left in
+    refused-is (goes-on ch k zero (stops-at-5 (s .args .prefix) (lent-of s) (sym (k .place zero .live) ∙ not-true _ (c .before .if2 .taken))))
+    (omega (arith, c .refused .ensures)) (λ z. omega arith)
 
 returns-3 : tie.Need-returns-3
-returns-3 c =
+returns-3 c = λ ch a.
     let s = c .before .before .before .before .before .before .before .before .before in
-    is-live (s .args .territory) (lent-of s) (s .args .prefix) (s .args .lets) (c .before .before .before .before .tests .ensures) (c .before .before .if1 .left) (c .if2 .left)
+    let t = s .args .territory in
+    let p = s .args .prefix in
+    let m = lent-of s in
+    let k = c .before .before .before .before .tests .ensures ch a in
+    let zero = c .before .before .if1 .left in
+    let lives : isLive p (routes (m .rules)) ≡ true = sym (k .place zero .live) ∙ not-false _ (c .if2 .left) in
+    let none : needsSegment t p (m .tables) ≡ false =
+    subst (λ (q : Prefix). isLive q (routes (m .rules)) ≡ true → needsSegment t q (m .tables) ≡ false) (a .names) (live-needs-none (let-pass ch k zero)) lives in
+    told-as k (ap (tested t ch m) (is-live p m lives)) (λ z. sym none)
 
 pub live-tests-spec : {M : Type 1} → statement M
 live-tests-spec = tie.close (tie.spec tests-requires returns refused-requires returns-2 returns-3)

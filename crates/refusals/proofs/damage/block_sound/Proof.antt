@@ -1,15 +1,23 @@
 -- `damage::block_sound` meets its contract: the two cases of a block, each with its own test of whether it is open. Assumes nothing.
-use mathlib.Core.Path.{sym, _∙_}
+use mathlib.Core.Path.{sym, ap, _∙_}
 use mathlib.Core.Bool.{true≢false}
+use Prim.Native.Nat.{_≤_, _<_}
+use native.Mathlib.Nat.{lt-of-not-le}
 use native.Mathlib.Omega.{arith}
 use lib.ListN.{getD}
 use borrow.Author.Tests.{not-true, not-false}
-use Rattle.ground.proofs.Tests.{iff?, stops, same-test}
-use Rattle.cells.specs.Cells.{segmentOf}
+use Rattle.ground.proofs.Tests.{leb?, iff?, stops, same-test, if-so, if-not}
+use Rattle.prefix.specs.Geometry.{width}
+use Rattle.cells.specs.Cells.{pointerBit, segmentOf}
+use Rattle.cells.specs.Memory.{Tables}
+use Rattle.refusals.specs.Damage.{segmentSound}
 use Rattle.refusals.proofs.Soundness.{isClean?, segmentSound?, soundBy?}
 use borrow.Author.Needs.{needs}
 use Rattle.refusals.proofs.damage.block_sound.Statement.{statement}
 use Rattle.refusals.proofs.damage.block_sound.Tie as tie
+
+abbrev tables-of : tie.Start → Tables
+tables-of s = record { first = s .args .first .now; long = s .args .long .now; owners = s .args .owners .now }
 
 mul-cell : tie.Need-mul-cell
 mul-cell c = search needs
@@ -17,44 +25,54 @@ mul-cell c = search needs
 shared-slice-read-cell : tie.Need-shared-slice-read-cell
 shared-slice-read-cell c = search needs
 
+is-pointer-requires : tie.Need-is-pointer-requires
+is-pointer-requires c κs = search needs
+
+-- the two cases
+other : (c : tie.Then1) → let s = c .before .before .before .before .before .before .args in getD (s .first .now) (s .block) 0 < pointerBit
+other c = let s = c .before .before .before .before .before .before .args in lt-of-not-le (if-not (leb? pointerBit (getD (s .first .now) (s .block) 0)) (c .before .is-pointer .ensures) (c .if1 .taken))
+
+pointer : (c : tie.Else1) → let s = c .before .before .before .before .before .before .args in pointerBit ≤ getD (s .first .now) (s .block) 0
+pointer c = let s = c .before .before .before .before .before .before .args in if-so (leb? pointerBit (getD (s .first .now) (s .block) 0)) (c .before .is-pointer .ensures) (c .if1 .left)
+
 returns : tie.Need-returns
 returns c =
-    let s = c .before .before .before .before .before .before .args in
-    sym (stops (soundBy? (s .first .now) (s .long .now) (s .owners .now) (s .block) (s .opened)) (λ b.
-    true≢false (sym (c .if2 .taken) ∙ b .other (omega arith) .1)))
+    let s = c .before .before .before .before .before .before .before in
+    sym (stops (soundBy? (tables-of s) (s .args .block) (s .args .opened)) (λ b. true≢false (sym (c .if2 .taken) ∙ b .other (other (c .before)) .1)))
 
 is-clean-requires : tie.Need-is-clean-requires
 is-clean-requires c κs = search needs
 
 returns-2 : tie.Need-returns-2
 returns-2 c =
-    let s = c .before .before .before .before .before .before .before .args in
+    let s = c .before .before .before .before .before .before .before .before in
+    let o = other (c .before .before) in
     c .is-clean .ensures
-    ∙ same-test (isClean? 24 (getD (s .first .now) (s .block) 0))
-    (iff? (soundBy? (s .first .now) (s .long .now) (s .owners .now) (s .block) (s .opened)) (λ b. b .other (omega arith) .0)
+    ∙ same-test (isClean? width (getD (s .args .first .now) (s .args .block) 0))
+    (iff? (soundBy? (tables-of s) (s .args .block) (s .args .opened)) (λ b. b .other o .0)
     (λ k. record { pointer = λ p. absurd (omega arith); other = λ l. (k, c .before .if2 .left) }))
 
 returns-3 : tie.Need-returns-3
 returns-3 c =
-    let s = c .before .before .before .before .before .before .args in
-    sym (stops (soundBy? (s .first .now) (s .long .now) (s .owners .now) (s .block) (s .opened)) (λ b.
-    true≢false (sym (b .pointer (omega arith) .1) ∙ not-true _ (c .if3 .taken))))
+    let s = c .before .before .before .before .before .before .before in
+    sym (stops (soundBy? (tables-of s) (s .args .block) (s .args .opened)) (λ b. true≢false (sym (b .pointer (pointer (c .before)) .1) ∙ not-true _ (c .if3 .taken))))
 
-cast-segment-sound : tie.Need-cast-segment-sound
-cast-segment-sound c =
-    let s = c .before .before .before .before .before .before .args in
-    omega (arith, c .before .before .before .before .before .shared-slice-known .given (s .block))
+segment-requires : tie.Need-segment-requires
+segment-requires c κs = pointer (c .before)
 
 segment-sound-requires : tie.Need-segment-sound-requires
 segment-sound-requires c κs = search needs
 
 returns-4 : tie.Need-returns-4
+unfolding segmentSound
 returns-4 c =
-    let s = c .before .before .before .before .before .before .before .args in
+    let s = c .before .before .before .before .before .before .before .before .before in
+    let p = pointer (c .before .before .before) in
     c .segment-sound .ensures
-    ∙ same-test (segmentSound? (s .long .now) (s .owners .now) (s .block) (segmentOf (getD (s .first .now) (s .block) 0)))
-    (iff? (soundBy? (s .first .now) (s .long .now) (s .owners .now) (s .block) (s .opened)) (λ b. b .pointer (omega arith) .0)
-    (λ k. record { pointer = λ p. (k, not-false _ (c .before .if3 .left)); other = λ l. absurd (omega arith) }))
+    ∙ ap (segmentSound (tables-of s) (s .args .block)) (c .before .segment .ensures)
+    ∙ same-test (segmentSound? (tables-of s) (s .args .block) (segmentOf (getD (s .args .first .now) (s .args .block) 0)))
+    (iff? (soundBy? (tables-of s) (s .args .block) (s .args .opened)) (λ b. b .pointer p .0)
+    (λ k. record { pointer = λ q. (k, not-false _ (c .before .before .if3 .left)); other = λ l. absurd (omega arith) }))
 
 pub block-sound-spec : {M : Type 1} → statement M
 block-sound-spec =
@@ -62,10 +80,11 @@ block-sound-spec =
     (tie.spec
     mul-cell
     shared-slice-read-cell
+    is-pointer-requires
     returns
     is-clean-requires
     returns-2
     returns-3
-    cast-segment-sound
+    segment-requires
     segment-sound-requires
     returns-4)

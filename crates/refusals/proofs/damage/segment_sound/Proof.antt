@@ -1,17 +1,23 @@
 -- `damage::segment_sound` meets its contract: each test that fails is one that a sound segment passes. Assumes nothing.
 use mathlib.Core.Path.{sym, _∙_}
+use mathlib.Core.List.{[]}
 use Prim.Native.Nat.{_*_}
 use native.Mathlib.Omega.{arith}
 use Rattle.ground.proofs.Tests.{iff?, stops, same-test}
+use Rattle.prefix.specs.Geometry.{blockSize}
+use Rattle.cells.specs.Memory.{Tables}
 use Rattle.refusals.proofs.Soundness.{cleanRun?, segmentSound?}
 use borrow.Author.Needs.{needs}
 use Rattle.refusals.proofs.damage.segment_sound.Statement.{statement}
 use Rattle.refusals.proofs.damage.segment_sound.Tie as tie
 
+abbrev tables-of : tie.Start → Tables
+tables-of s = record { first = []; long = s .args .long .now; owners = s .args .owners .now }
+
 returns : tie.Need-returns
 returns c =
-    let s = c .before .before .before .args in
-    sym (stops (segmentSound? (s .long .now) (s .owners .now) (s .block) (s .segment)) (λ h. omega (arith, h .lent)))
+    let s = c .before .before .before in
+    sym (stops (segmentSound? (tables-of s) (s .args .block) (s .args .segment)) (λ h. omega (arith, h .lent)))
 
 mul-if2 : tie.Need-mul-if2
 mul-if2 c = search needs
@@ -27,8 +33,8 @@ add-if2 c = search needs
 
 returns-2 : tie.Need-returns-2
 returns-2 c =
-    let s = c .before .before .before .before .before .args in
-    sym (stops (segmentSound? (s .long .now) (s .owners .now) (s .block) (s .segment)) (λ h. c .if2 .taken (omega (arith, h .owned))))
+    let s = c .before .before .before .before .before in
+    sym (stops (segmentSound? (tables-of s) (s .args .block) (s .args .segment)) (λ h. c .if2 .taken (omega (arith, h .owned))))
 
 mul-clean-run : tie.Need-mul-clean-run
 mul-clean-run c = search needs
@@ -38,10 +44,10 @@ clean-run-requires c κs = search needs
 
 returns-3 : tie.Need-returns-3
 returns-3 c =
-    let s = c .before .before .before .before .before .before .args in
+    let s = c .before .before .before .before .before .before in
     c .clean-run .ensures
-    ∙ same-test (cleanRun? 32 (s .long .now) (s .segment * 256) _)
-    (iff? (segmentSound? (s .long .now) (s .owners .now) (s .block) (s .segment)) (λ h i l. h .clean i (omega arith))
+    ∙ same-test (cleanRun? 32 (s .args .long .now) (s .args .segment * blockSize) _)
+    (iff? (segmentSound? (tables-of s) (s .args .block) (s .args .segment)) (λ h i l. h .clean i (omega arith))
     (λ k. record { lent = omega arith; owned = omega arith; clean = λ i l. k i (omega arith) }))
 
 pub segment-sound-spec : {M : Type 1} → statement M

@@ -1,98 +1,120 @@
 -- `damage::walk` meets its contract. The invariant is `Walked`: the blocks before this one are sound, and the cursor stands at its start.
 -- Assumes nothing.
-use mathlib.Core.Path.{sym}
-use Prim.Native.Nat.{_+_, _-_, _≤_}
+use mathlib.Core.Path.{_≡_, sym, subst}
+use Prim.Native.Nat.{ℕ, _+_, _-_, _*_, _≤_, _<_}
 use native.Mathlib.Omega.{arith}
+use lib.ListN.{length}
 use borrow.Author.Needs.{needs}
-use Rattle.ground.proofs.Tests.{passes, stops, if-so, if-not}
+use Rattle.ground.proofs.Tests.{Decides, passes, stops, if-so, if-not}
+use Rattle.prefix.specs.Geometry.{width, blockSize}
+use Rattle.prefix.proofs.Spans.{aligned}
+use Rattle.cells.specs.Memory.{Tables}
+use Rattle.cells.proofs.Lending.{few-firsts}
 use Rattle.rules.specs.Rules.{routes}
-use Rattle.refusals.proofs.Soundness.{CleanRun, cleanRun?, soundBy?}
-use Rattle.refusals.proofs.Walking.{Walked, soundRun?, clean-run, sound-run, sound-here, walked-on}
+use Rattle.refusals.specs.inner.Walk.{soundRun, Reached}
+use Rattle.refusals.proofs.Soundness.{CleanRun, cleanRun?, soundBy?, SoundTo, soundRun?}
+use Rattle.refusals.proofs.Turns.{Walked, start-within, clean-run, sound-run, sound-here, walked-on}
 use Rattle.refusals.proofs.damage.walk.Statement.{statement}
 use Rattle.refusals.proofs.damage.walk.Tie as tie
 
 abbrev Inv-loop : tie.InvT-loop
-Inv-loop first long owners rules live base from count at end block₀ here₀ block here = Walked base first long owners rules live from block here × (block ≤ end)
+Inv-loop first long owners rules live territory at end block₀ here₀ block here =
+    Walked territory (record { first = first; long = long; owners = owners }) rules live block₀ block here × (block ≤ end)
 
 abbrev μ-loop : tie.MeasureT-loop
-μ-loop first long owners rules live base from count at end block₀ here₀ block here = end - block
+μ-loop first long owners rules live territory at end block₀ here₀ block here = end - block
+
+abbrev tables-of : tie.Start Inv-loop μ-loop → Tables
+tables-of s = record { first = s .args .first .now; long = s .args .long .now; owners = s .args .owners .now }
+
+-- what the walk is to tell
+abbrev all? : (s : tie.Start Inv-loop μ-loop) → let a = s .args in
+    Decides (SoundTo (a .territory) (routes (a .rules .now)) (tables-of s) (a .blocks .from) (a .blocks .from + a .blocks .count))
+    (soundRun (a .territory) (a .blocks) (routes (a .rules .now)) (tables-of s))
+all? s = soundRun? (s .args .territory) (s .args .blocks) (routes (s .args .rules .now)) (tables-of s)
 
 add-end : tie.Need-add-end Inv-loop μ-loop
-add-end c = search needs
+add-end c = omega (arith, c .before .before .before .before .before .pre .lent .all)
 
 loop-holds : tie.Need-loop-holds Inv-loop μ-loop
-loop-holds c =
-    let s = c .before .before .before .before .pre in
-    (record { forward = omega arith; reached = s .reached; sound = λ k l m. absurd (omega arith) }, search needs)
+loop-holds c = (record { forward = omega arith; reached = c .before .before .before .before .before .pre .reached; sound = λ k l m. absurd (omega arith) }, search needs)
 
-mul-start : tie.Need-mul-start Inv-loop μ-loop
-mul-start c = search needs
+block-start-requires : tie.Need-block-start-requires Inv-loop μ-loop
+block-start-requires c κs =
+    let s = c .before .before .before .before .before .before .before in
+    start-within (s .pre .sized) (omega (arith, s .good)) (c .before .loop .block) (omega (arith, s .pre .lent .all))
 
-add-start : tie.Need-add-start Inv-loop μ-loop
-add-start c = search needs
+cast-stretch : tie.Need-cast-stretch Inv-loop μ-loop
+cast-stretch c = search needs
 
 sub-stretch : tie.Need-sub-stretch Inv-loop μ-loop
 sub-stretch c = search needs
 
 stretch-requires : tie.Need-stretch-requires Inv-loop μ-loop
-stretch-requires c κs = (c .before .before .before .before .before .before .pre .listed, c .before .loop .inv .0 .reached)
+stretch-requires c κs =
+    let s = c .before .before .before .before .before .before .before .before in
+    let l = c .before .before .loop in
+    (s .pre .listed, subst (λ (a : ℕ). Reached (s .args .rules .now) (s .args .live) a (l .here)) (sym (c .block-start .ensures)) (l .inv .0 .reached))
 
 clean-run-requires : tie.Need-clean-run-requires Inv-loop μ-loop
-clean-run-requires c κs = omega (arith, c .stretch .ensures .within)
+clean-run-requires c κs = omega (arith, c .stretch .ensures .within, c .before .before .before .before .before .before .before .before .before .pre .lent .all)
 
 returns : tie.Need-returns Inv-loop μ-loop
 returns c =
-    let s = c .before .before .before .before .before .before .before .before .before in
-    let a = s .args in
-    let l = c .before .before .before .before .loop in
-    let h = c .before .before .stretch .ensures in
-    sym (stops (soundRun? (a .base) (a .first .now) (a .long .now) (a .owners .now) (routes (a .rules .now)) (a .from) (a .count)) (λ all.
-    if-not (cleanRun? 24 (a .first .now) (l .block) (c .before .before .stretch .result)) (c .before .clean-run .ensures) (c .if1 .taken)
-    (clean-run (s .pre .listed) (s .pre .aligned) (l .inv .0) h (λ j m k. all j (omega arith) (omega arith)))))
+    let s = c .before .before .before .before .before .before .before .before .before .before .before in
+    let l = c .before .before .before .before .before .loop in
+    sym (stops (all? s) (λ all.
+    if-not (cleanRun? width (s .args .first .now) (l .block) (c .before .before .stretch .result)) (c .before .clean-run .ensures) (c .if1 .taken)
+    (clean-run (s .pre .sized) (s .pre .listed) (l .inv .0) (c .before .before .before .block-start .ensures) (c .before .before .stretch .ensures) (λ j m k. all j (omega arith) (omega arith)))))
 
 -- past the first test, the cells of the stretch are clean
-clean : (c : tie.Else1 Inv-loop μ-loop)
-    → CleanRun 24 (c .before .before .before .before .before .before .before .before .before .args .first .now) (c .before .before .before .before .loop .block) (c .before .before .stretch .result)
-clean c =
-    if-so (cleanRun? 24 (c .before .before .before .before .before .before .before .before .before .args .first .now) (c .before .before .before .before .loop .block) (c .before .before .stretch .result))
-    (c .before .clean-run .ensures) (c .if1 .left)
+clean : (c : tie.Else1 Inv-loop μ-loop) → CleanRun width (c .before .before .before .before .before .before .before .before .before .before .before .args .first .now) (c .before .before .before .before .before .loop .block) (c .before .before .stretch .result)
+clean c = if-so (cleanRun? width (c .before .before .before .before .before .before .before .before .before .before .before .args .first .now) (c .before .before .before .before .before .loop .block) (c .before .before .stretch .result)) (c .before .clean-run .ensures) (c .if1 .left)
 
 add-stop : tie.Need-add-stop Inv-loop μ-loop
 add-stop c = search needs
 
 returns-2 : tie.Need-returns-2 Inv-loop μ-loop
 returns-2 c =
-    let s = c .before .before .before .before .before .before .before .before .before .before in
-    let a = s .args in
-    let l = c .before .before .before .before .before .loop in
-    sym (passes (soundRun? (a .base) (a .first .now) (a .long .now) (a .owners .now) (routes (a .rules .now)) (a .from) (a .count)) (λ k m j.
-    sound-run (s .pre .listed) (s .pre .aligned) (l .inv .0) (c .before .before .before .stretch .ensures) (clean (c .before)) k m (omega arith)))
+    let s = c .before .before .before .before .before .before .before .before .before .before .before .before in
+    sym (passes (all? s) (λ k m j.
+    sound-run (s .pre .sized) (s .pre .listed) (c .before .before .before .before .before .before .loop .inv .0) (c .before .before .before .before .block-start .ensures) (c .before .before .before .stretch .ensures) (clean (c .before)) k m (omega arith)))
 
-mul-pass : tie.Need-mul-pass Inv-loop μ-loop
-mul-pass c = search needs
+-- past the second, the block after it has a cell
+block-start-requires-2 : tie.Need-block-start-requires-2 Inv-loop μ-loop
+block-start-requires-2 c κs =
+    let s = c .before .before .before .before .before .before .before .before .before .before .before .before in
+    start-within (s .pre .sized) (omega (arith, s .good)) (c .before .before .before .before .before .before .loop .block + c .before .before .before .stretch .result) (omega (arith, s .pre .lent .all, c .before .before .before .stretch .ensures .within))
 
-add-pass : tie.Need-add-pass Inv-loop μ-loop
-add-pass c = search needs
+cast-pass : tie.Need-cast-pass Inv-loop μ-loop
+cast-pass c = search needs
 
 pass-requires : tie.Need-pass-requires Inv-loop μ-loop
 pass-requires c κs =
-    let s = c .before .before .before .before .before .before .before .before .before .before .pre in
-    (s .listed, (c .before .before .before .stretch .ensures .reached, (omega (arith, s .aligned), omega (arith, s .few))))
+    let s = c .before .before .before .before .before .before .before .before .before .before .before .before .before in
+    let same : c .before .before .before .before .before .block-start .result + blockSize * c .before .before .before .before .stretch .result ≡ c .block-start2 .result = omega (arith, c .before .before .before .before .before .block-start .ensures, c .block-start2 .ensures) in (
+      s .pre .listed,
+      (
+        subst (λ (a : ℕ). Reached (s .args .rules .now) (s .args .live) a (c .before .before .before .before .before .before .before .loop .here)) same (c .before .before .before .before .stretch .ensures .reached),
+        (omega (arith, c .block-start2 .ensures, aligned (s .pre .sized .territory)), omega (arith, c .block-start2 .ensures, block-start-requires-2 (c .before) tt)),
+      ),
+    )
 
 block-sound-requires : tie.Need-block-sound-requires Inv-loop μ-loop
-block-sound-requires c κs = search needs
+block-sound-requires c κs =
+    let s = c .before .before .before .before .before .before .before .before .before .before .before .before .before .before .pre in
+    let lent : c .before .before .before .before .before .before .before .before .loop .block + c .before .before .before .before .before .stretch .result < length (c .before .before .before .before .before .before .before .before .before .before .before .before .before .before .args .first .now) = omega (arith, s .lent .all, c .before .before .before .before .before .stretch .ensures .within) in
+    (s .sized .longs, omega (arith, few-firsts (s .sized)), lent)
 
 returns-3 : tie.Need-returns-3 Inv-loop μ-loop
 returns-3 c =
-    let s = c .before .before .before .before .before .before .before .before .before .before .before .before .before in
-    let a = s .args in
-    let l = c .before .before .before .before .before .before .before .before .loop in
-    let k = c .before .before .before .before .before .before .stretch .result in
-    let opened = c .before .before .pass .result .opened in
-    sym (stops (soundRun? (a .base) (a .first .now) (a .long .now) (a .owners .now) (routes (a .rules .now)) (a .from) (a .count)) (λ all.
-    if-not (soundBy? (a .first .now) (a .long .now) (a .owners .now) (l .block + k) opened) (c .before .block-sound .ensures) (c .if3 .taken)
-    (sound-here (s .pre .listed) (s .pre .aligned) (l .inv .0) (c .before .before .before .before .before .before .stretch .ensures) (c .before .before .pass .ensures)
-    (all (l .block + k) (omega (arith, l .inv .0 .forward)) (omega arith)))))
+    let s = c .before .before .before .before .before .before .before .before .before .before .before .before .before .before .before .before in
+    let l = c .before .before .before .before .before .before .before .before .before .before .loop in
+    let stop : ℕ = l .block + c .before .before .before .before .before .before .before .stretch .result in
+    sym (stops (all? s) (λ all.
+    if-not (soundBy? (tables-of s) stop (c .before .before .pass .result .opened)) (c .before .block-sound .ensures) (c .if3 .taken)
+    (sound-here (s .pre .sized) (s .pre .listed) (l .inv .0) (c .before .before .before .before .before .before .before .before .block-start .ensures) (c .before .before .before .before .before .before .before .stretch .ensures) (c .before .before .before .block-start2 .ensures) (c .before .before .pass .ensures)
+    (all stop (omega (arith, l .inv .0 .forward)) (omega (arith, c .before .before .before .before .before .before .before .stretch .ensures .within))))))
 
 add-block : tie.Need-add-block Inv-loop μ-loop
 add-block c = search needs
@@ -102,22 +124,16 @@ loop-less c = search needs
 
 loop-again : tie.Need-loop-again Inv-loop μ-loop
 loop-again c =
-    let s = c .before .before .before .before .before .before .before .before .before .before .before .before .before in
-    let a = s .args in
-    let l = c .before .before .before .before .before .before .before .before .loop in
-    let k = c .before .before .before .before .before .before .stretch .result in
-    let opened = c .before .before .pass .result .opened in (
-      walked-on (s .pre .listed) (s .pre .aligned) (l .inv .0) (c .before .before .before .before .before .before .stretch .ensures) (c .before .before .pass .ensures)
-          (omega arith) (clean (c .before .before .before .before))
-          (if-so (soundBy? (a .first .now) (a .long .now) (a .owners .now) (l .block + k) opened) (c .before .block-sound .ensures) (c .if3 .left)),
+    let s = c .before .before .before .before .before .before .before .before .before .before .before .before .before .before .before .before in
+    let l = c .before .before .before .before .before .before .before .before .before .before .loop in (
+      walked-on (s .pre .sized) (s .pre .listed) (l .inv .0) (c .before .before .before .before .before .before .before .before .block-start .ensures) (c .before .before .before .before .before .before .before .stretch .ensures) (c .before .before .before .block-start2 .ensures) (c .before .before .pass .ensures)
+          (omega arith) (clean (c .before .before .before .before .before))
+          (if-so (soundBy? (tables-of s) (l .block + c .before .before .before .before .before .before .before .stretch .result) (c .before .before .pass .result .opened)) (c .before .block-sound .ensures) (c .if3 .left)),
       search needs,
     )
 
 returns-4 : tie.Need-returns-4 Inv-loop μ-loop
-returns-4 c =
-    let a = c .before .before .before .before .before .before .args in
-    sym (passes (soundRun? (a .base) (a .first .now) (a .long .now) (a .owners .now) (routes (a .rules .now)) (a .from) (a .count)) (λ k m j.
-    c .before .loop .inv .0 .sound k m (omega arith)))
+returns-4 c = sym (passes (all? (c .before .before .before .before .before .before .before)) (λ k m j. c .before .loop .inv .0 .sound k m (omega arith)))
 
 pub walk-spec : {M : Type 1} → statement M
 walk-spec =
@@ -127,16 +143,16 @@ walk-spec =
     μ-loop
     add-end
     loop-holds
-    mul-start
-    add-start
+    block-start-requires
+    cast-stretch
     sub-stretch
     stretch-requires
     clean-run-requires
     returns
     add-stop
     returns-2
-    mul-pass
-    add-pass
+    block-start-requires-2
+    cast-pass
     pass-requires
     block-sound-requires
     returns-3

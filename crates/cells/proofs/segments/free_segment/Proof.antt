@@ -1,13 +1,13 @@
--- `codes::free_segment` meets its contract. The invariant: no owner word before i is 0. Assumes nothing.
+-- `segments::free_segment` meets its contract. The invariant: no owner word before i is 0. Assumes nothing.
 use mathlib.Core.Path.{_≡_, sym}
 use Prim.Native.Nat.{ℕ, _-_, _≤_, _<_}
 use native.Mathlib.Omega.{arith}
 use lib.ListN.{length, getD, List·getD-eq-default}
 use borrow.Author.Count.{below-more}
 use borrow.Author.Needs.{needs}
-use Rattle.refusals.proofs.FreeWords.{lowest-is}
-use Rattle.refusals.proofs.codes.free_segment.Statement.{statement}
-use Rattle.refusals.proofs.codes.free_segment.Tie as tie
+use Rattle.cells.proofs.FreeSegments.{lowest-is}
+use Rattle.cells.proofs.segments.free_segment.Statement.{statement}
+use Rattle.cells.proofs.segments.free_segment.Tie as tie
 
 abbrev Inv-loop : tie.InvT-loop
 Inv-loop owners i₀ i = ((k : ℕ) → k < i → getD owners k 0 ≡ 0 → ⊥) × (i ≤ length owners)
