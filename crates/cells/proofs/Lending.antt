@@ -1,15 +1,13 @@
 -- What the tests of the sizes of what is lent decide. Assumes nothing.
 use mathlib.Core.Path.{_≡_}
-use Prim.Native.Nat.{ℕ, _*_, _%_, _^_, _≤_, _<_}
-use native.Mathlib.Nat.{lt-of-not-le}
-use lib.ListN.{length, getD}
+use Prim.Native.Nat.{ℕ, _*_, _%_, _^_, _≤_}
+use lib.ListN.{length}
 use native.Mathlib.Omega.{arith}
-use Rattle.ground.proofs.Tests.{Decides, leb?, ltb?, eqb?, and?, not?, iff?}
+use Rattle.ground.proofs.Tests.{Decides, leb?, eqb?, and?, iff?}
 use Rattle.prefix.specs.declared.Prefix.{Prefix}
-use Rattle.prefix.specs.Geometry.{width, blockSize, Territory, blocks, blockOf}
+use Rattle.prefix.specs.Geometry.{width, blockSize, Territory, blocks}
 use Rattle.prefix.proofs.Spans.{isTerritory?, few-blocks}
-use Rattle.cells.specs.Cells.{pointerBit}
-use Rattle.cells.specs.Memory.{Tables, Lent, needsSegment, mostSegments, mostRules, lentToRead, lentToUpdate, isLent, Sized, IsLent}
+use Rattle.cells.specs.Memory.{Tables, Lent, mostSegments, mostRules, lentToRead, lentToUpdate, isLent, Sized, IsLent}
 
 -- ---- to a call that reads
 
@@ -70,13 +68,3 @@ isLent? m t =
 -- a first table of a territory has at most 2 ^ 24 cells
 pub few-firsts : {t : Prefix} {tables : Tables} → Sized t tables → length (tables .first) ≤ 2 ^ width
 few-firsts {t} s = omega (arith, s .firsts, few-blocks t)
-
--- ---- segments that are needed
-
-pub needsSegment? : (t p : Prefix) (T : Tables)
-    → Decides ((width < p .length) × (getD (T .first) (blockOf t (p .address)) 0 < pointerBit)) (needsSegment t p T)
-unfolding needsSegment
-needsSegment? t p T =
-    iff? (and? (ltb? width (p .length)) (not? (leb? pointerBit (getD (T .first) (blockOf t (p .address)) 0))))
-    (λ h. (h .0, lt-of-not-le (h .1)))
-    (λ h. (h .0, λ l. omega (arith, h .1)))

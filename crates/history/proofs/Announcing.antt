@@ -20,8 +20,7 @@ use Rattle.cells.specs.Cells.{pack, pointerBit, pointTo, cellOf}
 use Rattle.prefix.proofs.Spans.{block-inside, opens-own, opens-only, aligned}
 use Rattle.cells.specs.Memory.{noZero, needsSegment, lowestFree, Tables}
 use Rattle.tables.specs.Cellwise.{paintCell, repainted}
-use Rattle.refusals.proofs.FreeWords.{lowest-free}
-use Rattle.cells.proofs.Lending.{needsSegment?}
+use Rattle.cells.proofs.FreeSegments.{lowest-free, needsSegment?}
 use Rattle.tables.specs.Changes.{openedAt, openedFor}
 use Rattle.history.proofs.Holding.{closed-cell, open-pointer, retold, pointer-stays, repaint-step, open-step, Holds}
 use Rattle.history.proofs.Matches.{best-good, cell-direct, paint-better}

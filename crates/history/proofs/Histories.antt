@@ -13,7 +13,8 @@ use Rattle.prefix.proofs.Best.{isRoute?}
 use Rattle.rules.specs.Rules.{routes, isLive}
 use Rattle.rules.proofs.Indices.{IsLive, isLive?}
 use Rattle.cells.specs.Memory.{Lent, IsLent, needsSegment}
-use Rattle.cells.proofs.Lending.{isLent?, needsSegment?}
+use Rattle.cells.proofs.Lending.{isLent?}
+use Rattle.cells.proofs.FreeSegments.{needsSegment?}
 use Rattle.refusals.proofs.Refusing.{live-passed, passed, room-passed}
 use Rattle.refusals.specs.Codes.{clearCode, announces, withdraws, re-homes, code, Call, change, unlessRoom, unlessLive}
 use Rattle.updates.specs.Effects.{cleared, effect}

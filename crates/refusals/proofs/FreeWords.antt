@@ -7,7 +7,8 @@ use native.Mathlib.Omega.{arith}
 use lib.Dec.{eqb}
 use lib.ListN.{length}
 use Rattle.ground.proofs.Tests.{eqb?, iff?, same-test}
-use Rattle.rules.specs.Rules.{live, Listed}
+use Rattle.rules.specs.Rules.{live}
+use Rattle.rules.specs.inner.Places.{Listed}
 use Rattle.cells.specs.Memory.{noZero, lowestFree}
 use Rattle.cells.proofs.FreeSegments.{noZero?}
 

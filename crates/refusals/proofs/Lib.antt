@@ -1,6 +1,5 @@
 -- Laws of damage and of the numbers of refusal; the crates above cite them.
 pub mod Soundness
-pub mod Walking
 pub mod Turns
 pub mod FreeWords
 pub mod Refusing

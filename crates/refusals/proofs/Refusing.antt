@@ -22,7 +22,6 @@ use Rattle.cells.specs.Memory.{Tables, Lent, isLent, IsLent, noZero, needsSegme
 use Rattle.cells.proofs.Lending.{isLent?}
 use Rattle.cells.proofs.FreeSegments.{needsSegment?}
 use Rattle.rules.specs.Rules.{routes, isLive}
-use Rattle.rules.proofs.FormTests.{formed-listed}
 use Rattle.rules.proofs.Indices.{isLive?}
 use Rattle.refusals.specs.declared.codes.Checked.{Checked}
 use Rattle.refusals.specs.Damage.{undamaged}
@@ -100,7 +99,7 @@ module _ {t : Prefix} {c : Change} {m : Lent} (k : Admitted t c m) (l : isLive (
       let p = named c in
       let b = blockOf t (p .address) in
       let rs = routes (m .rules) in
-      let L = says (isLive? p rs (formed-listed (k .sound .rules) .all) (named-formed c (k .numbers))) l in
+      let L = says (isLive? p rs) l in
       let is-open : isOpen rs (blockStart t b) ≡ true = passes (opened? width rs (blockStart t b))
       (L .0, L .1, subst (λ (q : Prefix). Opens width q (blockStart t b)) (sym (L .2)) (opens-own t p (k .lent .sized .territory) (k .inside) long)) in
       let S : BlockSound t rs (m .tables) b = k .sound .blocks b (omega arith) (omega (arith, some-block p)) in

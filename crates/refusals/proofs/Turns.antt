@@ -16,10 +16,12 @@ use Rattle.prefix.proofs.Blocks.{opened?}
 use Rattle.prefix.proofs.Spans.{aligned, span-blocks, block-lent, blocks-inside}
 use Rattle.cells.specs.Cells.{pointerBit}
 use Rattle.cells.specs.Memory.{Tables, Sized}
-use Rattle.rules.specs.Rules.{routes, Listed}
-use Rattle.refusals.specs.inner.Walk.{Reached, StretchIs, PassedIs, BlocksLent}
+use Rattle.rules.specs.Rules.{routes}
+use Rattle.rules.specs.inner.Places.{Listed}
+use Rattle.rules.specs.inner.Blocks.{Reached, StretchIs, PassedIs}
+use Rattle.refusals.specs.inner.Walk.{BlocksLent}
 use Rattle.refusals.proofs.Soundness.{Clean, CleanRun, clean-below, SoundBy, BlockSound, SoundTo}
-use Rattle.refusals.proofs.Walking.{reached-between, open-between}
+use Rattle.rules.proofs.Cursor.{reached-between, open-between}
 
 -- a block that has a cell starts at an address
 pub start-within : {t : Prefix} {tables : Tables} → Sized t tables → t .address < 2 ^ 32 → (k : ℕ) → k < length (tables .first) → blockStart t k < 2 ^ 32

@@ -1,23 +1,21 @@
 // Damage, refusal 4 of an update: one walk along the blocks that the prefix touches and the rules that lie in them.
 ghost use mathlib.Core.Path.{_≡_};
-ghost use mathlib.Core.Bool.{_||_};
-ghost use Prim.Native.Nat.{_+_, _*_, _^_, _%_, _<_, _≤_};
-ghost use lib.Dec.{ltb};
+ghost use Prim.Native.Nat.{_+_, _*_, _^_, _<_, _≤_};
 ghost use lib.ListN.{length};
-ghost use Rattle.prefix.specs.Price.{isOpen};
 ghost use Rattle.prefix.specs.Geometry.{width, blockSize};
-ghost use Rattle.rules.specs.Words.{prefixOf};
-ghost use Rattle.rules.specs.Rules.{routes, Listed};
+ghost use Rattle.rules.specs.Rules.{routes};
+ghost use Rattle.rules.specs.inner.Places.{Listed};
 ghost use Rattle.cells.specs.Memory.{tables, tablesIn, Sized};
 ghost use Rattle.refusals.specs.Damage.{isClean, segmentSound, soundBy};
-ghost use Rattle.refusals.specs.inner.Walk.{cleanRun, longIn, soundRun, Reached, StretchIs, PassedIs, BlocksLent, MayWalk};
+ghost use Rattle.refusals.specs.inner.Walk.{cleanRun, longIn, soundRun, BlocksLent, MayWalk};
 use cells::cell::Cell;
 use prefix::Prefix;
 use prefix::geometry::Block;
 use prefix::geometry::Blocks;
 use prefix::geometry::block_start;
-use rules::list::position;
-use rules::word::Rule;
+use rules::blocks::pass;
+use rules::blocks::reach;
+use rules::blocks::stretch;
 
 // Whether the cell is 0 or direct, with a length of at most `longest`.
 fn is_clean(cell: u32, longest: u32) -> bool
@@ -76,58 +74,6 @@ fn block_sound(first: &[u32], long: &[u32], owners: &[u32], block: usize, opened
     segment_sound(long, owners, block, Cell::segment(cell))
 }
 
-// A place in the list of live rules, and whether a rule longer than 24 was passed on the way to it.
-pub struct Cursor {
-    pub at: usize,
-    pub opened: bool,
-}
-
-// Whether a rule longer than 24 was passed, once the word is passed too.
-fn opens(opened: bool, word: u64) -> bool
-    ensures { λ r. ⌜ r ≡ (opened || ltb 24 (prefixOf word .length)) ⌝ }
-{
-    if opened {
-        return true;
-    }
-    24 < Rule::length(word)
-}
-
-// Past the rules of the block that starts at the address `start`. The cursor stands at the first of them.
-fn pass(rules: &[u64], live: usize, at: usize, start: u64) -> Cursor
-    requires { ⌜ Listed (now rules) live ⌝ }
-    requires { ⌜ Reached (now rules) live start at ⌝ }
-    requires { ⌜ (start % 256 ≡ 0) × (start < 2 ^ 63) ⌝ }
-    ensures { λ r. ⌜ PassedIs (now (rules .entry)) live start (r .at) (r .opened) ⌝ }
-{
-    let mut i = at;
-    let mut opened = false;
-    while i < live {
-        let word = rules[i];
-        if start + 256 <= Rule::address(word) as u64 {
-            return Cursor { at: i, opened };
-        }
-        opened = opens(opened, word);
-        i += 1;
-    }
-    Cursor { at: i, opened }
-}
-
-// How many of the `left` blocks from the address `start` on come before the next rule's. The cursor stands at that rule.
-fn stretch(rules: &[u64], live: usize, at: usize, start: u64, left: usize) -> usize
-    requires { ⌜ Listed (now rules) live ⌝ }
-    requires { ⌜ Reached (now rules) live start at ⌝ }
-    ensures { λ r. ⌜ StretchIs (now (rules .entry)) live at start left r ⌝ }
-{
-    if at == live {
-        return left;
-    }
-    let ahead = ((Rule::address(rules[at]) as u64 - start) / 256) as usize;
-    if left < ahead {
-        return left;
-    }
-    ahead
-}
-
 // Whether each of the blocks is sound; the cursor stands where the first of them starts. A turn goes along the blocks up to that of the
 // next rule, which are closed, and over that one.
 fn walk(
@@ -167,24 +113,6 @@ fn walk(
     true
 }
 
-// Whether a live prefix longer than 24 lies in the block that starts at this address.
-pub fn is_open(rules: &[u64], live: usize, start: u32) -> bool
-    requires { ⌜ Listed (now rules) live ⌝ }
-    requires { ⌜ start % 256 ≡ 0 ⌝ }
-    ensures { λ r. ⌜ r ≡ isOpen (routes (now (rules .entry))) start ⌝ }
-{
-    let at = position(
-        rules,
-        live,
-        Rule::key_of(Prefix {
-            address: start,
-            length: 0,
-        }),
-    );
-    let passed = pass(rules, live, at, start as u64);
-    passed.opened
-}
-
 // The same, with the cursor yet to be set.
 pub fn blocks_sound(
     first: &[u32],
@@ -199,10 +127,7 @@ pub fn blocks_sound(
     requires { ⌜ Listed (now rules) live ⌝ }
     ensures { λ r. ⌜ r ≡ soundRun territory blocks (routes (now (rules .entry))) (tablesIn first long owners) ⌝ }
 {
-    let start = Prefix {
-        address: block_start(territory, blocks.from),
-        length: 0,
-    };
-    let at = position(rules, live, Rule::key_of(start));
+    let start = block_start(territory, blocks.from);
+    let at = reach(rules, live, start);
     walk(first, long, owners, rules, live, territory, blocks, at)
 }

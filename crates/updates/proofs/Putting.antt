@@ -22,8 +22,10 @@ use Rattle.rules.specs.inner.Places.{Listed, PlaceIs}
 use Rattle.rules.proofs.Indices.{IsLive, isLive?, listed-within}
 use Rattle.cells.specs.Memory.{Lent, lowestFree, noZero, needsSegment}
 use Rattle.refusals.specs.Codes.{announceCode, reHomeCode}
-use Rattle.refusals.proofs.FreeWords.{lowest-free, all-live}
-use Rattle.refusals.proofs.Refusing.{Passed, needsSegment?, announce-passed, live-passed}
+use Rattle.cells.proofs.FreeSegments.{lowest-free, needsSegment?}
+use Rattle.refusals.proofs.FreeWords.{all-live}
+use Rattle.ground.proofs.Lists.{Passed}
+use Rattle.refusals.proofs.Refusing.{announce-passed, live-passed}
 use Rattle.refusals.proofs.Soundness.{BlockSound}
 use Rattle.tables.specs.Cellwise.{paintCell, firstChanged, longChanged, repainted}
 use Rattle.tables.specs.inner.Ready.{Ready, Points, Repaintable, Openable}

@@ -5,7 +5,7 @@ use Prim.Native.Nat.{ℕ}
 use Rattle.prefix.specs.declared.Prefix.{Prefix}
 use Rattle.prefix.specs.Geometry.{touched}
 use Rattle.prefix.specs.Routes.{Change, named, isChange}
-use Rattle.rules.specs.Rules.{Listed, PlaceIs}
+use Rattle.rules.specs.inner.Places.{Listed, PlaceIs}
 use Rattle.cells.specs.Memory.{Tables, Lent, lowestFree, needsSegment}
 use Rattle.refusals.specs.declared.codes.Checked.{Checked}
 use Rattle.refusals.specs.Damage.{undamaged}

@@ -8,7 +8,8 @@ use Rattle.prefix.specs.declared.geometry.Blocks.{Blocks}
 use Rattle.prefix.specs.Geometry.{touched}
 use Rattle.prefix.proofs.Spans.{past-base}
 use Rattle.cells.specs.Memory.{Lent}
-use Rattle.rules.specs.Rules.{routes, Formed, Listed}
+use Rattle.rules.specs.Rules.{routes, Formed}
+use Rattle.rules.specs.inner.Places.{Listed}
 use Rattle.rules.proofs.FormTests.{formed?, formed-listed}
 use Rattle.refusals.specs.inner.Walk.{soundRun, BlocksLent}
 use Rattle.refusals.proofs.Soundness.{soundRun?}

@@ -11,7 +11,8 @@ use Rattle.prefix.proofs.Spans.{aligned}
 use Rattle.cells.specs.Memory.{Tables}
 use Rattle.cells.proofs.Lending.{few-firsts}
 use Rattle.rules.specs.Rules.{routes}
-use Rattle.refusals.specs.inner.Walk.{soundRun, Reached}
+use Rattle.refusals.specs.inner.Walk.{soundRun}
+use Rattle.rules.specs.inner.Blocks.{Reached}
 use Rattle.refusals.proofs.Soundness.{CleanRun, cleanRun?, soundBy?, SoundTo, soundRun?}
 use Rattle.refusals.proofs.Turns.{Walked, start-within, clean-run, sound-run, sound-here, walked-on}
 use Rattle.refusals.proofs.damage.walk.Statement.{statement}
