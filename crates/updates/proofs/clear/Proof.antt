@@ -1,6 +1,6 @@
 -- `clear` meets its contract: a refusal writes nothing, and else each slice is set to 0. Assumes nothing.
 use mathlib.Core.Path.{_≡_, sym, _∙_}
-use Rattle.cells.specs.Memory.{Lent, memory}
+use Rattle.cells.specs.Memory.{Lent, lent}
 use Rattle.updates.specs.Effects.{cleared}
 use Rattle.updates.proofs.Outcomes.{clear-refused, clear-accepted}
 use native.Mathlib.Omega.{arith}
@@ -10,7 +10,7 @@ use Rattle.updates.proofs.clear.Tie as tie
 
 -- the memory at entry
 abbrev at-entry : tie.Start → Lent
-at-entry s = memory (s .args .first .now) (s .args .long .now) (s .args .owners .now) (s .args .rules .now)
+at-entry s = lent (s .args .first) (s .args .long) (s .args .owners) (s .args .rules)
 
 abbrev start : tie.After-clear-checked → tie.Start
 start c = c .before .before .before .before .before .before .before .before .before
@@ -71,7 +71,7 @@ returns-2 c =
     let k = first .before .before .before in
     let s = start k in
     let zero : k .clear-checked .result ≡ 0 = omega (arith, first .before .before .if1 .left) in
-    clear-accepted (s .args .territory) (at-entry s) (sym (k .clear-checked .ensures) ∙ zero)
+    clear-accepted (s .args .territory) (at-entry s) (k .clear-checked .ensures) zero
     (cc (first .zero-cells .ensures)) (cc (long .zero-cells2 .ensures)) (cc (owners .zero-cells3 .ensures)) (cc (rules .zero-words .ensures))
 
 pub clear-spec : {M : Type 1} → statement M

@@ -10,7 +10,7 @@ use Rattle.prefix.specs.Routes.{Route, IsRoute}
 use Rattle.cells.specs.Memory.{Tables, Lent, noZero, lowestFree, needsSegment}
 use Rattle.rules.specs.Rules.{Formed}
 use Rattle.rules.specs.inner.Places.{Listed, PlaceIs}
-use Rattle.tables.specs.inner.Ready.{Ready}
+use Rattle.tables.specs.inner.Ready.{Ready, Repaintable}
 use Rattle.refusals.specs.declared.codes.Checked.{Checked}
 
 -- ---- announce and re-home

@@ -1,2 +1,0 @@
--- `put::paint_route` meets its contract: where the block has no segment and needs one, the lowest free one is opened and painted, and else
--- the cells are painted where they stand. Assumes nothing.
