@@ -13,11 +13,11 @@ use Rattle.ground.proofs.Lists.{length-where, getD-off, where-none, where-one, 
 use Rattle.prefix.specs.declared.Prefix.{Prefix}
 use Rattle.prefix.specs.Geometry.{blockSize, blockStart}
 use Rattle.cells.specs.Cells.{pointerBit, pointTo}
-use Rattle.cells.specs.Memory.{Tables}
+use Rattle.cells.specs.Memory.{Tables, Sized}
 use Rattle.cells.proofs.Lending.{few-firsts}
 use Rattle.tables.specs.Cellwise.{cellAddress}
 use Rattle.tables.specs.inner.Ready.{Points, segmentAt, Owns}
-use Rattle.tables.specs.inner.Ranges.{RunChanged, BlocksReady, BlocksChanged}
+use Rattle.tables.specs.inner.Ranges.{Within, SegmentRun, RunChanged, BlocksReady, BlocksChanged}
 use Rattle.tables.proofs.Changes.{tablesOf}
 use Rattle.tables.proofs.Ranges.{inRange?}
 use Rattle.tables.proofs.Segments.{Direct, Open, Among, directAmong?, openAmong?}
@@ -49,25 +49,28 @@ module _ (t : Prefix) (f : ℕ → ℕ → ℕ) where
     count = omega (arith, differing-one (T .first) b v l, differing-refl (T .long));
   }
 
-  pub block-points : {T : Tables} {b s at to r : ℕ} {long : List ℕ} → Owns T b s → at ≡ s * blockSize → to ≡ at + blockSize
-      → RunChanged (λ i. f (cellAddress t T i)) at to (T .long) long r → BlocksChanged t f b (b + 1) T (T .first) long r
-  block-points {T} {b} {s} {at} {to} owns e u p = record {
+  pub block-points : {T : Tables} {b s from to r : ℕ} {long : List ℕ} → Owns T b s → SegmentRun s from to
+      → RunChanged (λ i. f (cellAddress t T i)) from to (T .long) long r → BlocksChanged t f b (b + 1) T (T .first) long r
+  block-points {T} {b} {s} {from} {to} owns run p = record {
     firsts = where-none (directAmong? b (b + 1) (T .first)) _ (T .first) (λ j d. omega (arith, direct-one (T .first) b j d, owns .points));
-    longs = p .is ∙ where-same (inRange? at to) (openAmong? b (b + 1) T) _ (T .long)
+    longs = p .is ∙ where-same (inRange? from to) (openAmong? b (b + 1) T) _ (T .long)
         (λ i k.
-        let q : i / blockSize ≡ s = omega arith in
+        let q : i / blockSize ≡ s = omega (arith, run .low, run .high) in
         record { block = b; meets = omega arith; owner = rw q (owns .owner); points = rw q (owns .points) })
-        (λ i o. omega (arith, open-one T b i o, owns .points));
+        (λ i o. omega (arith, run .low, run .high, open-one T b i o, owns .points));
     count = omega (arith, p .count, differing-refl (T .first));
   }
 
--- a block that points: its segment, which it owns and which is lent whole
-module _ {t : Prefix} {T : Tables} {b : ℕ} (ready : BlocksReady t b (b + 1) T) (pointer : Points T b) where
-  pub owns-one : Owns T b (segmentAt T b)
-  owns-one = ready .owned b (le-refl b) (omega arith) pointer
+-- a block that points owns its segment, and that is lent whole
+pub owns-one : {t : Prefix} {T : Tables} {b : ℕ} → BlocksReady t b (b + 1) T → Points T b → Owns T b (segmentAt T b)
+owns-one {b = b} ready pointer = ready .owned b (le-refl b) (omega arith) pointer
 
-  pub whole-lent : {at : ℕ} → at ≡ segmentAt T b * blockSize → at + blockSize ≤ length (T .long)
-  whole-lent e = omega (arith, owns-one .lent, ready .sized .longs)
+pub segment-within : {t : Prefix} {T : Tables} {b s from to : ℕ} → Sized t T → Owns T b s → SegmentRun s from to → Within from to (T .long)
+segment-within sized owns run = record {
+  ordered = omega (arith, run .high);
+  inside = omega (arith, run .low, run .high, owns .lent, sized .longs);
+  few = omega (arith, run .high);
+}
 
 -- the blocks from..mid are changed: what is left of the tables
 module _ {t : Prefix} {f : ℕ → ℕ → ℕ} {T : Tables} {first long : List ℕ} {from mid r : ℕ} (p : BlocksChanged t f from mid T first long r) where
