@@ -4,12 +4,10 @@ use mathlib.Core.Path.{_≡_, ap}
 use mathlib.Core.List.{List}
 use Prim.Native.Nat.{ℕ, _+_, _-_, _*_, _/_, _%_, _^_, _≤_, _<_}
 use native.Mathlib.Omega.{arith}
-use lib.Dec.{lit≤}
 use lib.ListN.{length}
 use Rattle.prefix.specs.declared.Prefix.{Prefix}
-use Rattle.prefix.specs.Prefixes.{span, WellFormed, Contains}
 use Rattle.prefix.specs.Geometry.{blockSize, blockStart, blockOf}
-use Rattle.prefix.proofs.Prefixes.{by-range, ends-inside}
+use Rattle.prefix.proofs.Prefixes.{ends-within}
 use Rattle.prefix.proofs.Spans as spans
 use Rattle.cells.specs.Memory.{Tables, Sized}
 use Rattle.tables.specs.Cellwise.{cellAddress}
@@ -40,17 +38,6 @@ own-run {t} {p} h {b} at same run f c =
     let within = spans.run-inside (ready .sized .territory) (ready .formed) (ready .inside) (h .longer) in
     run-addressed f t (owns h at) (p .address % blockSize) (omega (arith, run .low)) (omega (arith, run .low, run .high)) begins c
 
--- a prefix ends no later than the addresses do
-whole : Prefix
-whole = record { address = 0; length = 0 }
-
-pub ends : {p : Prefix} → WellFormed p → p .address < 2 ^ 32 → p .address + span (p .length) ≤ 2 ^ 32
-unfolding whole
-ends {p} w h =
-    let f : WellFormed whole = record { short = lit≤ tt; clear = omega arith } in
-    let inside : Contains whole (p .address) = by-range f (omega arith) (omega arith) in
-    omega (arith, ends-inside f w (record { longer = omega arith; inside = inside }))
-
--- nor do the blocks of a territory
+-- a block of a territory ends no later than the addresses do
 pub block-ends : {t : Prefix} {T : Tables} → Sized t T → t .address < 2 ^ 32 → {k : ℕ} → k ≤ length (T .first) → blockStart t k ≤ 2 ^ 32
-block-ends s small inside = omega (arith, s .firsts, ends (s .territory .formed) small, spans.span-blocks (s .territory))
+block-ends s small inside = omega (arith, s .firsts, ends-within (s .territory .formed) small, spans.span-blocks (s .territory))

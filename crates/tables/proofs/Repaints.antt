@@ -11,7 +11,8 @@ use Rattle.ground.specs.Lists.{changeWhere}
 use Rattle.ground.proofs.Lists.{where-none, where-same, differing-refl}
 use Rattle.prefix.specs.declared.Prefix.{Prefix}
 use Rattle.prefix.specs.Prefixes.{span, Contains}
-use Rattle.prefix.specs.Geometry.{width, blockSize, blockStart, blockOf, blocks}
+use Rattle.prefix.specs.declared.geometry.Blocks.{Blocks}
+use Rattle.prefix.specs.Geometry.{width, blockSize, blockStart, blockOf, blocks, touched}
 use Rattle.prefix.proofs.Spans as spans
 use Rattle.cells.specs.Cells.{pointTo}
 use Rattle.cells.specs.Memory.{Tables}
@@ -27,40 +28,50 @@ use Rattle.tables.proofs.Segments.{Open, directAmong?, openAmong?, dire
 first-place : {p : Prefix} {a : ℕ} → Contains p a → Contains p (a + 0)
 first-place {p} {a} c = subst (Contains p) (sym (add-zero a)) c
 
-from-first : {p : Prefix} {a : ℕ} → Contains p (a + 0) → Contains p a
-from-first {p} {a} c = subst (Contains p) (add-zero a) c
-
 -- ---- a prefix of length up to 24: whole blocks
 
-module _ {t p : Prefix} {T : Tables} (ready : Ready t p T) {b : ℕ} (at : b ≡ blockOf t (p .address)) where
-  pub block-lent : b < length (T .first)
-  block-lent = omega (arith, spans.block-lent (ready .sized .territory) (ready .formed) (ready .inside), ready .sized .firsts)
+module _ {t p : Prefix} {T : Tables} (ready : Ready t p T) where
+  pub block-lent : {b : ℕ} → b ≡ blockOf t (p .address) → b < length (T .first)
+  block-lent at = omega (arith, spans.block-lent (ready .sized .territory) (ready .formed) (ready .inside), ready .sized .firsts)
 
-  module _ (short : p .length ≤ width) {n : ℕ} (all : n ≡ blocks p) where
-    pub blocks-ready : BlocksReady t b (b + n) T
+  module _ (short : p .length ≤ width) {bs : Blocks} (is : bs ≡ touched t p) where
+    abbrev b : ℕ
+    b = bs .from
+
+    abbrev e : ℕ
+    e = bs .from + bs .count
+
+    from : b ≡ blockOf t (p .address)
+    from = ap (λ (x : Blocks). x .from) is
+
+    count : bs .count ≡ blocks p
+    count = ap (λ (x : Blocks). x .count) is
+
+    pub blocks-ready : BlocksReady t b e T
     blocks-ready = record {
       sized = ready .sized;
       ordered = omega arith;
-      within = omega (arith, ready .sized .firsts, spans.blocks-inside (ready .sized .territory) (ready .formed) (ready .inside));
-      owned = λ k low high pointer. ready .owned k (omega arith) (omega arith) pointer;
+      within = omega (arith, from, count, ready .sized .firsts, spans.blocks-inside (ready .sized .territory) (ready .formed) (ready .inside));
+      owned = λ k low high pointer. ready .owned k (omega (arith, from)) (omega (arith, from, count)) pointer;
     }
 
-    inside : (k j : ℕ) → j < blockSize → Contains p (blockStart t k + j) → (b ≤ k) × (k < b + n)
-    inside k j l c = omega (arith, spans.blocks-in (ready .sized .territory) (ready .formed) (ready .inside) short k j l c)
+    inside : (k j : ℕ) → j < blockSize → Contains p (blockStart t k + j) → (b ≤ k) × (k < e)
+    inside k j l c = omega (arith, from, count, spans.blocks-in (ready .sized .territory) (ready .formed) (ready .inside) short k j l c)
 
-    contained : (k j : ℕ) → j < blockSize → (b ≤ k) × (k < b + n) → Contains p (blockStart t k + j)
-    contained k j l r = spans.by-blocks (ready .sized .territory) (ready .formed) (ready .inside) short k j l (omega arith) (omega arith)
+    contained : (k j : ℕ) → j < blockSize → (b ≤ k) × (k < e) → Contains p (blockStart t k + j)
+    contained k j l r =
+        spans.by-blocks (ready .sized .territory) (ready .formed) (ready .inside) short k j l (omega (arith, from)) (omega (arith, from, count))
 
-    pub blocks-repainted : (f : ℕ → ℕ → ℕ) {first long : List ℕ} {r : ℕ} → BlocksChanged t f b (b + n) T first long r
+    pub blocks-repainted : (f : ℕ → ℕ → ℕ) {first long : List ℕ} {r : ℕ} → BlocksChanged t f b e T first long r
         → left r (tablesOf first long (T .owners)) ≡ leaves (repainted t p f) T
     unfolding repainted
     blocks-repainted f c =
         left-is (repainted t p f) T
         (tables-are
-        (c .firsts ∙ where-same (directAmong? b (b + n) (T .first)) (directIn? t p (T .first)) _ (T .first)
-        (λ k d. record { meets = from-first (contained k 0 (lit< tt) (d .meets)); direct = d .direct })
+        (c .firsts ∙ where-same (directAmong? b e (T .first)) (directIn? t p (T .first)) _ (T .first)
+        (λ k d. record { meets = subst (Contains p) (add-zero _) (contained k 0 (lit< tt) (d .meets)); direct = d .direct })
         (λ k d. record { meets = inside k 0 (lit< tt) (first-place (d .meets)); direct = d .direct }))
-        (c .longs ∙ where-same (openAmong? b (b + n) T) (openIn? t p T) _ (T .long)
+        (c .longs ∙ where-same (openAmong? b e T) (openIn? t p T) _ (T .long)
         (λ i o. record { block = o .block; meets = contained (o .block) (i % blockSize) (mod-lt i (lit< tt)) (o .meets); owner = o .owner; points = o .points })
         (λ i o. record { block = o .block; meets = inside (o .block) (i % blockSize) (mod-lt i (lit< tt)) (o .meets); owner = o .owner; points = o .points }))
         refl)

@@ -154,8 +154,8 @@ fn unpaint_blocks(
             length,
             kept,
         );
-        changed += tally.changed;
         kept = tally.run;
+        changed += tally.changed;
         block += 1;
     }
     Tally { changed, run: kept }
