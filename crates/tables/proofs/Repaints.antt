@@ -2,7 +2,7 @@
 -- repaint requires and leaves. Assumes nothing.
 use mathlib.Core.Path.{_≡_, refl, sym, ap, subst, _∙_}
 use mathlib.Core.List.{List}
-use Prim.Native.Nat.{ℕ, _+_, _/_, _%_, _≤_, _<_}
+use Prim.Native.Nat.{ℕ, _+_, _-_, _/_, _%_, _≤_, _<_}
 use native.Mathlib.Nat.{add-zero, mod-lt}
 use native.Mathlib.Omega.{arith}
 use lib.Dec.{lit<}
@@ -22,6 +22,7 @@ use Rattle.tables.specs.inner.Ready.{Points, segmentAt, Owns, Ready, Rep
 use Rattle.tables.specs.inner.Ranges.{inRange, Within, PrefixRun, RunChanged, BlocksReady, BlocksChanged}
 use Rattle.tables.proofs.Changes.{tablesOf, tables-are, left-is}
 use Rattle.tables.proofs.Ranges.{inRange?}
+use Rattle.tables.proofs.Blocks.{run-addressed}
 use Rattle.tables.proofs.Segments.{Open, directAmong?, openAmong?, directIn?, openIn?}
 
 -- an address at place 0 of a block is the block's own
@@ -116,6 +117,14 @@ module _ {t p : Prefix} {T : Tables} (h : Closable t p T) {b : ℕ} (at : b ≡ 
           inside = omega (arith, run .low, run .high, owns .lent, h .ready .sized .longs);
           few = omega (arith, run .high);
         }
+
+    -- by the addresses counted from the run's first cell
+    pub run-counted : (f : ℕ → ℕ → ℕ) {r : ℕ} {xs ys : List ℕ} → RunChanged (λ i. f (p .address + (i - from))) from to xs ys r
+        → RunChanged (λ i. f (cellAddress t T i)) from to xs ys r
+    run-counted f c =
+        let begins = spans.starts-in (h .ready .sized .territory) (h .ready .formed) (h .ready .inside) (h .longer) in
+        let within = spans.run-inside (h .ready .sized .territory) (h .ready .formed) (h .ready .inside) (h .longer) in
+        run-addressed f t owns (p .address % blockSize) (omega (arith, run .low)) (omega (arith, run .low, run .high)) (omega arith) c
 
     pub run-tables : (f : ℕ → ℕ → ℕ) {long : List ℕ} → long ≡ changeWhere (inRange from to) (λ i. f (cellAddress t T i)) (T .long)
         → tablesOf (T .first) long (T .owners) ≡ repainted t p f T

@@ -32,7 +32,8 @@ segment-cells-requires c κs = let s = entry (c .before) in omega (arith, points
 fill-run-requires : tie.Need-fill-run-requires
 fill-run-requires c κs =
     let s = entry (c .before .before .before) in
-    segment-within (s .pre .0 .ready .sized) (owns (s .pre .0) (s .pre .1)) (c .before .segment-cells .ensures)
+    let run = c .before .segment-cells .ensures in
+    segment-within (s .pre .0 .ready .sized) (owns (s .pre .0) (s .pre .1)) (omega (arith, run .low)) (omega (arith, run .high))
 
 mul-owners : tie.Need-mul-owners
 mul-owners c = search needs
@@ -71,7 +72,8 @@ returns c =
     let at-fill = c .before .before .before in
     let k = at-segment (c .before) in
     let s = entry (k .before) in
-    closed (s .pre .0) (s .pre .1) _ (k .segment .ensures) (at-fill .before .before .segment-cells .ensures) refl (omega arith)
+    let run = at-fill .before .before .segment-cells .ensures in
+    closed (s .pre .0) (s .pre .1) _ (k .segment .ensures) (omega (arith, k .segment .ensures, run .low)) (omega (arith, run .high)) refl (omega arith)
     (at-fill .fill-run .ensures) (c .differ .ensures)
 
 pub close-spec : {M : Type 1} → statement M

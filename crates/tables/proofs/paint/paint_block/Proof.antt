@@ -30,7 +30,10 @@ segment-cells-requires : tie.Need-segment-cells-requires
 segment-cells-requires c κs = omega (arith, owns c .points)
 
 paint-run-requires : tie.Need-paint-run-requires
-paint-run-requires c κs = let k = c .before .before in segment-within (entry k .pre .sized) (owns k) (c .before .segment-cells .ensures)
+paint-run-requires c κs =
+    let k = c .before .before in
+    let run = c .before .segment-cells .ensures in
+    segment-within (entry k .pre .sized) (owns k) (omega (arith, run .low)) (omega (arith, run .high))
 
 same-length : tie.Need-same-length
 same-length c = search needs
@@ -39,7 +42,8 @@ returns : tie.Need-returns
 returns c =
     let at-run = c .before .before in
     let at-cells = at-run .before .before in
-    block-points _ _ (owns (at-cells .before)) (at-cells .segment-cells .ensures) (at-run .paint-run .ensures)
+    let run = at-cells .segment-cells .ensures in
+    block-points _ _ (owns (at-cells .before)) (omega (arith, run .low)) (omega (arith, run .high)) (at-run .paint-run .ensures)
 
 paint-cell-requires : tie.Need-paint-cell-requires
 paint-cell-requires c κs = search needs

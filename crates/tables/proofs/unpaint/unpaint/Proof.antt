@@ -1,7 +1,7 @@
 -- `unpaint::unpaint` meets its contract. A prefix of length up to 24 is a run of blocks; a longer one is a run of cells in its block's
 -- segment. The run kept at first is that of the prefix's own address. Assumes nothing.
 use mathlib.Core.Path.{_≡_, ap}
-use Prim.Native.Nat.{_+_, _-_, _^_, _<_}
+use Prim.Native.Nat.{_+_, _^_, _<_}
 use native.Mathlib.Omega.{arith}
 use denote.Ref.{now}
 use borrow.Author.Needs.{needs}
@@ -15,9 +15,8 @@ use Rattle.rules.specs.Rules.{routes}
 use Rattle.tables.specs.Cellwise.{unpaintCell}
 use Rattle.tables.specs.inner.Ready.{Closable}
 use Rattle.tables.specs.inner.Ranges.{BlocksReady}
-use Rattle.tables.proofs.Repaints.{block-lent, blocks-ready, blocks-repainted, closable, points, owns, run-within, run-repainted}
-use Rattle.tables.proofs.Addresses.{own-run}
-use Rattle.tables.proofs.Unpainted.{kept-later, kept-run}
+use Rattle.tables.proofs.Repaints.{block-lent, blocks-ready, blocks-repainted, closable, points, owns, run-within, run-counted, run-repainted}
+use Rattle.tables.proofs.Cellwise.{kept-later, kept-run}
 use Rattle.tables.proofs.unpaint.unpaint.Statement.{statement}
 use Rattle.tables.proofs.unpaint.unpaint.Tie as tie
 
@@ -102,7 +101,7 @@ returns-2 c =
     let run = at-run .before .before .run-of .ensures in
     let f = unpaintCell (s .args .prefix .length) (routes (now (s .args .rules))) in
     run-repainted (open-block k) (from s) (at-segment .segment .ensures) run f
-    (own-run (open-block k) (from s) (at-segment .segment .ensures) run f (at-run .unpaint-run .ensures .run))
+    (run-counted (open-block k) (from s) (at-segment .segment .ensures) run f (at-run .unpaint-run .ensures .run))
 
 pub unpaint-spec : {M : Type 1} → statement M
 unpaint-spec =

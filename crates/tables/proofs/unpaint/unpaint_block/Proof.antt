@@ -12,9 +12,8 @@ use Rattle.rules.specs.Rules.{routes}
 use Rattle.tables.specs.Cellwise.{unpaintCell}
 use Rattle.tables.specs.inner.Ready.{segmentAt, Owns}
 use Rattle.tables.specs.inner.Unpaint.{Asking}
-use Rattle.tables.proofs.Blocks.{block-direct, block-points, owns-one, segment-within}
-use Rattle.tables.proofs.Addresses.{run-addressed, block-ends}
-use Rattle.tables.proofs.Unpainted.{kept-later}
+use Rattle.tables.proofs.Blocks.{block-direct, block-points, owns-one, segment-within, run-addressed, block-ends}
+use Rattle.tables.proofs.Cellwise.{kept-later}
 use Rattle.tables.proofs.unpaint.unpaint_block.Statement.{statement}
 use Rattle.tables.proofs.unpaint.unpaint_block.Tie as tie
 
@@ -54,8 +53,10 @@ unpaint-run-requires : tie.Need-unpaint-run-requires
 unpaint-run-requires c κs =
     let k = c .before .before in
     let s = entry (begun k) in
-    let run = c .before .segment-cells .ensures in
-    (segment-within (s .pre .0 .sized) (owns k) run, (omega (arith, run .high, begun k .block-start .ensures, end s), asking (begun k)))
+    let run = c .before .segment-cells .ensures in (
+      segment-within (s .pre .0 .sized) (owns k) (omega (arith, run .low)) (omega (arith, run .high)),
+      (omega (arith, run .high, begun k .block-start .ensures, end s), asking (begun k)),
+    )
 
 same-length : tie.Need-same-length
 same-length c = search needs
@@ -70,7 +71,7 @@ returns c =
     let run = run-addressed (unpaintCell (a .length) (routes (now (a .rules)))) (a .territory) (owns k) 0 (omega (arith, cells .low))
     (omega (arith, cells .low, cells .high)) (omega (arith, begun k .block-start .ensures)) (at-run .unpaint-run .ensures .run) in
     record {
-      blocks = block-points _ _ (owns k) cells run;
+      blocks = block-points _ _ (owns k) (omega (arith, cells .low)) (omega (arith, cells .high)) run;
       kept = kept-later (omega (arith, cells .high, begun k .block-start .ensures)) (at-run .unpaint-run .ensures .kept);
     }
 
