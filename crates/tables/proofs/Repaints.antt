@@ -25,10 +25,6 @@ use Rattle.tables.proofs.Ranges.{inRange?}
 use Rattle.tables.proofs.Blocks.{run-addressed}
 use Rattle.tables.proofs.Segments.{Open, directAmong?, openAmong?, directIn?, openIn?}
 
--- an address at place 0 of a block is the block's own
-first-place : {p : Prefix} {a : ℕ} → Contains p a → Contains p (a + 0)
-first-place {p} {a} c = subst (Contains p) (sym (add-zero a)) c
-
 -- ---- a prefix of length up to 24: whole blocks
 
 module _ {t p : Prefix} {T : Tables} (ready : Ready t p T) where
@@ -71,7 +67,7 @@ module _ {t p : Prefix} {T : Tables} (ready : Ready t p T) where
         (tables-are
         (c .firsts ∙ where-same (directAmong? b e (T .first)) (directIn? t p (T .first)) _ (T .first)
         (λ k d. record { meets = subst (Contains p) (add-zero _) (contained k 0 (lit< tt) (d .meets)); direct = d .direct })
-        (λ k d. record { meets = inside k 0 (lit< tt) (first-place (d .meets)); direct = d .direct }))
+        (λ k d. record { meets = inside k 0 (lit< tt) (subst (Contains p) (sym (add-zero _)) (d .meets)); direct = d .direct }))
         (c .longs ∙ where-same (openAmong? b e T) (openIn? t p T) _ (T .long)
         (λ i o. record { block = o .block; meets = contained (o .block) (i % blockSize) (mod-lt i (lit< tt)) (o .meets); owner = o .owner; points = o .points })
         (λ i o. record { block = o .block; meets = inside (o .block) (i % blockSize) (mod-lt i (lit< tt)) (o .meets); owner = o .owner; points = o .points }))
@@ -95,7 +91,7 @@ module _ {t p : Prefix} {T : Tables} (h : Closable t p T) {b : ℕ} (at : b ≡ 
   unfolding repainted
   firsts-stay f =
       where-none (directIn? t p (T .first)) _ (T .first) (λ k d.
-      let q = spans.run-in (h .ready .sized .territory) (h .ready .formed) (h .ready .inside) (h .longer) k 0 (lit< tt) (first-place (d .meets)) in
+      let q = spans.run-in (h .ready .sized .territory) (h .ready .formed) (h .ready .inside) (h .longer) k 0 (lit< tt) (subst (Contains p) (sym (add-zero _)) (d .meets)) in
       let same : k ≡ b = omega arith in
       let e : getD (T .first) k 0 ≡ pointTo (segmentAt T b) = rw same (owns .points) in
       omega (arith, d .direct))
