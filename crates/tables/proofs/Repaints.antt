@@ -22,7 +22,7 @@ use Rattle.tables.specs.inner.Ready.{Points, segmentAt, Owns, Ready, Rep
 use Rattle.tables.specs.inner.Ranges.{inRange, Within, PrefixRun, RunChanged, BlocksReady, BlocksChanged}
 use Rattle.tables.proofs.Changes.{tablesOf, tables-are, left-is}
 use Rattle.tables.proofs.Ranges.{inRange?}
-use Rattle.tables.proofs.Blocks.{run-addressed}
+use Rattle.tables.proofs.Blocks.{segment-within, run-addressed}
 use Rattle.tables.proofs.Segments.{Open, directAmong?, openAmong?, directIn?, openIn?}
 
 -- ---- a prefix of length up to 24: whole blocks
@@ -108,11 +108,7 @@ module _ {t p : Prefix} {T : Tables} (h : Closable t p T) {b : ℕ} (at : b ≡ 
     pub run-within : Within from to (T .long)
     run-within =
         let i = spans.run-inside (h .ready .sized .territory) (h .ready .formed) (h .ready .inside) (h .longer) in
-        record {
-          ordered = omega (arith, run .high);
-          inside = omega (arith, run .low, run .high, owns .lent, h .ready .sized .longs);
-          few = omega (arith, run .high);
-        }
+        segment-within (h .ready .sized) owns (omega (arith, run .low)) (omega (arith, run .high)) (omega (arith, run .low, run .high))
 
     -- by the addresses counted from the run's first cell
     pub run-counted : (f : ℕ → ℕ → ℕ) {r : ℕ} {xs ys : List ℕ} → RunChanged (λ i. f (p .address + (i - from))) from to xs ys r

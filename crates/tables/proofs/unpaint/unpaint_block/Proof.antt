@@ -54,7 +54,7 @@ unpaint-run-requires c κs =
     let k = c .before .before in
     let s = entry (begun k) in
     let run = c .before .segment-cells .ensures in (
-      segment-within (s .pre .0 .sized) (owns k) (omega (arith, run .low)) (omega (arith, run .high)),
+      segment-within (s .pre .0 .sized) (owns k) (omega (arith, run .low)) (omega (arith, run .high)) (omega (arith, run .low, run .high)),
       (omega (arith, run .high, begun k .block-start .ensures, end s), asking (begun k)),
     )
 
