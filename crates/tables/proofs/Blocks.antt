@@ -3,7 +3,7 @@
 use mathlib.Core.Path.{_≡_, sym, ap, _∙_}
 use mathlib.Core.Logic.{inl, inr}
 use mathlib.Core.List.{List}
-use Prim.Native.Nat.{ℕ, _+_, _*_, _/_, _^_, _≤_, _<_}
+use Prim.Native.Nat.{ℕ, _+_, _-_, _*_, _/_, _^_, _≤_, _<_}
 use native.Mathlib.Nat.{le-refl}
 use native.Mathlib.Omega.{arith}
 use lib.ListN.{length, getD, set}
@@ -12,22 +12,19 @@ use Rattle.ground.proofs.Tests.{ltb?, by-test}
 use Rattle.ground.proofs.Lists.{length-where, getD-off, where-none, where-one, where-same, where-then, differing-refl, differing-le, differing-one, differing-then}
 use Rattle.prefix.specs.declared.Prefix.{Prefix}
 use Rattle.prefix.specs.Geometry.{blockSize, blockStart}
+use Rattle.prefix.proofs.Prefixes.{ends-within}
+use Rattle.prefix.proofs.Spans.{span-blocks}
 use Rattle.cells.specs.Cells.{pointerBit, pointTo}
-use Rattle.cells.specs.Memory.{Tables}
+use Rattle.cells.specs.Memory.{Tables, Sized}
 use Rattle.cells.proofs.Lending.{few-firsts}
 use Rattle.tables.specs.Cellwise.{cellAddress}
 use Rattle.tables.specs.inner.Ready.{Points, segmentAt, Owns}
-use Rattle.tables.specs.inner.Ranges.{RunChanged, BlocksReady, BlocksChanged}
+use Rattle.tables.specs.inner.Ranges.{Within, RunChanged, BlocksReady, BlocksChanged}
 use Rattle.tables.proofs.Changes.{tablesOf}
-use Rattle.tables.proofs.Ranges.{inRange?}
-use Rattle.tables.proofs.Segments.{Direct, Open, Among, directAmong?, openAmong?}
+use Rattle.tables.proofs.Ranges.{inRange?, run-cong}
+use Rattle.tables.proofs.Segments.{Direct, Open, Among, directAmong?, openAmong?, address-owned}
 
 -- of one block
-direct-one : (first : List ℕ) (b j : ℕ) → Direct (Among b (b + 1)) first j → getD first b 0 < pointerBit
-direct-one first b j d =
-    let q : j ≡ b = omega arith in
-    rw q at (d .direct)
-
 open-one : (T : Tables) (b i : ℕ) → Open (Among b (b + 1)) T i → getD (T .first) b 0 ≡ pointTo (i / blockSize)
 open-one T b i o =
     let q : o .block ≡ b = omega arith in
@@ -49,11 +46,13 @@ module _ (t : Prefix) (f : ℕ → ℕ → ℕ) where
     count = omega (arith, differing-one (T .first) b v l, differing-refl (T .long));
   }
 
-  pub block-points : {T : Tables} {b s at to r : ℕ} {long : List ℕ} → Owns T b s → at ≡ s * blockSize → to ≡ at + blockSize
-      → RunChanged (λ i. f (cellAddress t T i)) at to (T .long) long r → BlocksChanged t f b (b + 1) T (T .first) long r
-  block-points {T} {b} {s} {at} {to} owns e u p = record {
-    firsts = where-none (directAmong? b (b + 1) (T .first)) _ (T .first) (λ j d. omega (arith, direct-one (T .first) b j d, owns .points));
-    longs = p .is ∙ where-same (inRange? at to) (openAmong? b (b + 1) T) _ (T .long)
+  pub block-points : {T : Tables} {b s from to r : ℕ} {long : List ℕ} → Owns T b s → from ≡ s * blockSize → to ≡ from + blockSize
+      → RunChanged (λ i. f (cellAddress t T i)) from to (T .long) long r → BlocksChanged t f b (b + 1) T (T .first) long r
+  block-points {T} {b} {s} {from} {to} owns low high p = record {
+    firsts = where-none (directAmong? b (b + 1) (T .first)) _ (T .first) (λ j d.
+        let q : j ≡ b = omega arith in
+        omega (arith, rw q at (d .direct), owns .points));
+    longs = p .is ∙ where-same (inRange? from to) (openAmong? b (b + 1) T) _ (T .long)
         (λ i k.
         let q : i / blockSize ≡ s = omega arith in
         record { block = b; meets = omega arith; owner = rw q (owns .owner); points = rw q (owns .points) })
@@ -61,13 +60,27 @@ module _ (t : Prefix) (f : ℕ → ℕ → ℕ) where
     count = omega (arith, p .count, differing-refl (T .first));
   }
 
--- a block that points: its segment, which it owns and which is lent whole
-module _ {t : Prefix} {T : Tables} {b : ℕ} (ready : BlocksReady t b (b + 1) T) (pointer : Points T b) where
-  pub owns-one : Owns T b (segmentAt T b)
-  owns-one = ready .owned b (le-refl b) (omega arith) pointer
+-- a block that points owns its segment, and a run of that is lent
+pub owns-one : {t : Prefix} {T : Tables} {b : ℕ} → BlocksReady t b (b + 1) T → Points T b → Owns T b (segmentAt T b)
+owns-one {b = b} ready pointer = ready .owned b (le-refl b) (omega arith) pointer
 
-  pub whole-lent : {at : ℕ} → at ≡ segmentAt T b * blockSize → at + blockSize ≤ length (T .long)
-  whole-lent e = omega (arith, owns-one .lent, ready .sized .longs)
+pub segment-within : {t : Prefix} {T : Tables} {b s from to : ℕ} → Sized t T → Owns T b s → s * blockSize ≤ from → from ≤ to → to ≤ s * blockSize + blockSize
+    → Within from to (T .long)
+segment-within sized owns low ordered high = record { ordered = ordered; inside = omega (arith, owns .lent, sized .longs); few = omega arith }
+
+-- a run of the segment of block b, from the place j on, by the addresses counted from the run's first cell
+pub run-addressed : (f : ℕ → ℕ → ℕ) (t : Prefix) {T : Tables} {b s : ℕ} → Owns T b s → (j : ℕ) {from to a r : ℕ} {xs ys : List ℕ}
+    → from ≡ s * blockSize + j → to ≤ s * blockSize + blockSize → a ≡ blockStart t b + j → RunChanged (λ i. f (a + (i - from))) from to xs ys r
+    → RunChanged (λ i. f (cellAddress t T i)) from to xs ys r
+run-addressed f t {T} {b} {s} o j {from} {to} {a} ef et ea c =
+    run-cong c (λ i. f (cellAddress t T i)) (λ i x low high.
+    let q : i / blockSize ≡ s = omega arith in
+    let e : a + (i - from) ≡ cellAddress t T i = omega (arith, address-owned t o i q) in
+    ap (λ (y : ℕ). f y x) e)
+
+-- no block ends later than the addresses do
+pub block-ends : {t : Prefix} {T : Tables} → Sized t T → t .address < 2 ^ 32 → {k : ℕ} → k ≤ length (T .first) → blockStart t k ≤ 2 ^ 32
+block-ends s small inside = omega (arith, s .firsts, ends-within (s .territory .formed) small, span-blocks (s .territory))
 
 -- the blocks from..mid are changed: what is left of the tables
 module _ {t : Prefix} {f : ℕ → ℕ → ℕ} {T : Tables} {first long : List ℕ} {from mid r : ℕ} (p : BlocksChanged t f from mid T first long r) where

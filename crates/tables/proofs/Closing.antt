@@ -2,7 +2,7 @@
 -- Assumes nothing.
 use mathlib.Core.Path.{_≡_, refl, sym, ap, _∙_}
 use mathlib.Core.List.{List}
-use Prim.Native.Nat.{ℕ, _+_, _*_, _/_, _≤_, _<_}
+use Prim.Native.Nat.{ℕ, _+_, _*_, _/_}
 use native.Mathlib.Omega.{arith}
 use lib.ListN.{length, getD, set}
 use Rattle.ground.specs.Lists.{differs}
@@ -19,23 +19,20 @@ use Rattle.tables.specs.inner.Ranges.{RunChanged}
 use Rattle.tables.proofs.Changes.{tablesOf, tables-are, left-is}
 use Rattle.tables.proofs.Segments.{openIn?}
 use Rattle.tables.proofs.Filling.{filled-whole, length-filled, getD-filled, getD-other}
-use Rattle.tables.proofs.Repaints.{block-lent, owns, firsts-stay, in-segment}
+use Rattle.tables.proofs.Repaints.{block-lent, firsts-stay, in-segment}
 
 module _ {t p : Prefix} {T : Tables} (h : Closable t p T) {b : ℕ} (at-block : b ≡ blockOf t (p .address)) where
   abbrev s : ℕ
   s = segmentAt T b
 
-  pub segment-inside : s * blockSize + blockSize ≤ length (T .long)
-  segment-inside = omega (arith, owns h at-block .lent, h .ready .sized .longs)
-
   -- u is the segment
-  pub closed : (cell : ℕ) {u at to value word r d : ℕ} {long : List ℕ} → u ≡ s → at ≡ u * blockSize → to ≡ at + blockSize → value ≡ empty → word ≡ 0
-      → RunChanged (λ i x. value) at to (T .long) long r → d ≡ differs (getD (T .first) b 0) cell
+  pub closed : (cell : ℕ) {u from to value word r d : ℕ} {long : List ℕ} → u ≡ s → from ≡ u * blockSize → to ≡ from + blockSize → value ≡ empty → word ≡ 0
+      → RunChanged (λ i x. value) from to (T .long) long r → d ≡ differs (getD (T .first) b 0) cell
       → left (r + d) (tablesOf (set (T .first) b cell) long (set (T .owners) u word)) ≡ leaves (closedAt b s cell) T
   unfolding closedAt
-  closed cell {u} {word = word} eu ea et ev ew c ed =
+  closed cell {u} {word = word} eu low high ev ew c ed =
       left-is (closedAt b s cell) T
-      (tables-are refl (rw ev at (filled-whole s (omega arith) et c)) (ap (λ (i : ℕ). set (T .owners) i word) eu ∙ ap (set (T .owners) s) ew))
+      (tables-are refl (rw ev at (filled-whole s (omega arith) high c)) (ap (λ (i : ℕ). set (T .owners) i word) eu ∙ ap (set (T .owners) s) ew))
       (omega (arith, c .count, differing-one (T .first) b cell (block-lent (h .ready) at-block)))
 
   -- a repaint leaves the pointer, and changes no cell outside the block's segment, which is filled all over

@@ -37,11 +37,11 @@ filled-in-three {at} {from} {to} {inside} {around} h p q o =
     (run-cong o (λ i v. twoValues from to inside around i) (λ i v l m. sym (around-run from to inside around i (λ k. omega arith))))
 
 -- one run of a segment with one value is the segment filled
-pub filled-whole : (s : ℕ) {at to value : ℕ} {xs ys : List ℕ} {r : ℕ} → at ≡ s * blockSize → to ≡ at + blockSize → RunChanged (λ i x. value) at to xs ys r
+pub filled-whole : (s : ℕ) {from to value : ℕ} {xs ys : List ℕ} {r : ℕ} → from ≡ s * blockSize → to ≡ from + blockSize → RunChanged (λ i x. value) from to xs ys r
     → ys ≡ segmentFilled s value xs
 unfolding segmentFilled
-filled-whole s {at} {to} {xs = xs} e u p =
-    p .is ∙ where-same (inRange? at to) (λ i. eqb? (i / blockSize) s) _ xs (λ i r. omega arith) (λ i q. omega arith)
+filled-whole s {from} {to} {xs = xs} low high p =
+    p .is ∙ where-same (inRange? from to) (λ i. eqb? (i / blockSize) s) _ xs (λ i r. omega arith) (λ i q. omega arith)
 
 pub length-filled : (s value : ℕ) (xs : List ℕ) → length (segmentFilled s value xs) ≡ length xs
 unfolding segmentFilled
@@ -54,6 +54,14 @@ getD-filled s value xs i h q = getD-on _ _ xs i (eqb? (i / blockSize) s) h q
 pub getD-other : (s value : ℕ) (xs : List ℕ) (i : ℕ) → (i / blockSize ≡ s → ⊥) → getD (segmentFilled s value xs) i 0 ≡ getD xs i 0
 unfolding segmentFilled
 getD-other s value xs i n = getD-off _ _ xs i (eqb? (i / blockSize) s) n
+
+-- the same of the cell at the place i of segment n
+module _ (s value : ℕ) (xs : List ℕ) where
+  pub filled-in : (i : ℕ) → i < blockSize → s * blockSize + i < length xs → getD (segmentFilled s value xs) (s * blockSize + i) 0 ≡ value
+  filled-in i h l = getD-filled s value xs (s * blockSize + i) l (segment-of s i h)
+
+  pub filled-out : (n i : ℕ) → i < blockSize → ¬ (n ≡ s) → getD (segmentFilled s value xs) (n * blockSize + i) 0 ≡ getD xs (n * blockSize + i) 0
+  filled-out n i h d = getD-other s value xs (n * blockSize + i) (λ e. d (sym (segment-of n i h) ∙ e))
 
 -- a segment filled with two values is one filled with the value around, with g of that in the run
 pub filled-then : (s : ℕ) {at from to inside around r : ℕ} {xs ys : List ℕ} (g : ℕ → ℕ → ℕ) → at ≡ s * blockSize → at ≤ from → to ≤ at + blockSize

@@ -1,6 +1,6 @@
 -- Open segments: the block that owns a segment and points to it, and what the tests of them decide; and that a cell's owner word, by which
 -- the specification goes, and its block, from which look up comes, say the same where the block owns the segment. Assumes nothing.
-use mathlib.Core.Path.{_≡_, refl, sym, ap, subst, _∙_}
+use mathlib.Core.Path.{_≡_, refl, ap, subst, _∙_}
 use mathlib.Core.Bool.{Bool, false, not, _&&_, and-true, and-false}
 use mathlib.Core.List.{List}
 use Prim.Native.Nat.{ℕ, zero, suc, _+_, _*_, _/_, _%_, _≤_, _<_}
@@ -94,16 +94,16 @@ module _ (t p : Prefix) (first : List ℕ) (k : ℕ) where
   pointer-in s e = rw (passes (leb? pointerBit (getD first k 0)) (omega arith)) (and-false (contains p (blockStart t k)))
 
 -- by the owner word or by the block: the cell i of a segment that block k owns
-module _ (t p : Prefix) {tables : Tables} {k s : ℕ} (o : Owns tables k s) (i : ℕ) (q : i / blockSize ≡ s) where
+module _ (t : Prefix) {tables : Tables} {k s : ℕ} (o : Owns tables k s) (i : ℕ) (q : i / blockSize ≡ s) where
   owner-is : ownerAt tables i ≡ suc k
   owner-is = let e : getD (tables .owners) (i / blockSize) 0 ≡ k + 1 = rw q (o .owner) in omega arith
 
   pub address-owned : cellAddress t tables i ≡ blockStart t k + i % blockSize
   address-owned = ap (addressBy t i) owner-is
 
-  pub open-owned : openIn t p tables i ≡ contains p (blockStart t k + i % blockSize)
+  pub open-owned : (p : Prefix) → openIn t p tables i ≡ contains p (blockStart t k + i % blockSize)
   unfolding openIn openBy
-  open-owned =
+  open-owned p =
       ap (openBy t p (tables .first) i) owner-is
       ∙ ap (λ (x : Bool). x && contains p (blockStart t k + i % blockSize)) (passes (eqb? (getD (tables .first) k 0) (pointTo (i / blockSize))) (rw q (o .points)))
 
@@ -116,15 +116,15 @@ open-free t p tables i e = ap (openBy t p (tables .first) i) e
 pub segment-of : (s i : ℕ) → i < blockSize → (s * blockSize + i) / blockSize ≡ s
 segment-of s i h = omega arith
 
-pub place-of : (s i : ℕ) → i < blockSize → (s * blockSize + i) % blockSize ≡ i
-place-of s i h = omega arith
-
 module _ (t p : Prefix) (tables : Tables) (s i : ℕ) (h : i < blockSize) where
+  place-of : (s * blockSize + i) % blockSize ≡ i
+  place-of = omega arith
+
   pub free-in : getD (tables .owners) s 0 ≡ 0 → openIn t p tables (s * blockSize + i) ≡ false
   free-in e = open-free t p tables (s * blockSize + i) (rw (segment-of s i h) e)
 
   pub address-at : {k : ℕ} → Owns tables k s → cellAddress t tables (s * blockSize + i) ≡ blockStart t k + i
-  address-at {k} o = address-owned t p o (s * blockSize + i) (segment-of s i h) ∙ ap (λ (j : ℕ). blockStart t k + j) (place-of s i h)
+  address-at {k} o = address-owned t o (s * blockSize + i) (segment-of s i h) ∙ ap (λ (j : ℕ). blockStart t k + j) place-of
 
   pub owned-in : {k : ℕ} → Owns tables k s → openIn t p tables (s * blockSize + i) ≡ contains p (blockStart t k + i)
-  owned-in {k} o = open-owned t p o (s * blockSize + i) (segment-of s i h) ∙ ap (λ (j : ℕ). contains p (blockStart t k + j)) (place-of s i h)
+  owned-in {k} o = open-owned t o (s * blockSize + i) (segment-of s i h) p ∙ ap (λ (j : ℕ). contains p (blockStart t k + j)) place-of

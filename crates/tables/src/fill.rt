@@ -96,8 +96,8 @@ pub fn close(
 {
     let pointer = first[block];
     let segment = Cell::segment(pointer);
-    let at = place::segment_start(segment);
-    let changed = fill_run(long, at, at + Block::CELLS, Cell::EMPTY);
+    let range = place::segment_cells(pointer);
+    let changed = fill_run(long, range.from, range.to, Cell::EMPTY);
     owners[segment] = 0;
     first[block] = cell;
     changed + paint::differ(pointer, cell)

@@ -67,8 +67,8 @@ fn paint_block(
 {
     let cell = first[block];
     if Cell::is_pointer(cell) {
-        let at = place::segment_start(Cell::segment(cell));
-        return paint_run(long, at, at + Block::CELLS, new, length);
+        let range = place::segment_cells(cell);
+        return paint_run(long, range.from, range.to, new, length);
     }
     let next = paint_cell(cell, new, length);
     first[block] = next;

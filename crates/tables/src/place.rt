@@ -3,17 +3,34 @@ ghost use mathlib.Core.Path.{_≡_};
 ghost use Prim.Native.Nat.{_*_, _<_, _≤_};
 ghost use Rattle.prefix.specs.Prefixes.{span};
 ghost use Rattle.prefix.specs.Geometry.{width, blockSize};
-ghost use Rattle.cells.specs.Memory.{mostSegments};
-ghost use Rattle.tables.specs.inner.Ranges.{PrefixRun};
+ghost use Rattle.cells.specs.Cells.{pointerBit, segmentOf};
+ghost use Rattle.tables.specs.inner.Ranges.{SegmentRun, PrefixRun};
+use cells::cell::Cell;
 use prefix::Prefix;
 use prefix::geometry::Block;
 
+// The cells from..to.
+pub struct Range {
+    pub from: usize,
+    pub to: usize,
+}
+
 // The index of a segment's first cell.
 pub fn segment_start(segment: usize) -> usize
-    requires { ⌜ segment < mostSegments ⌝ }
+    requires { ⌜ segment < pointerBit ⌝ }
     ensures { λ r. ⌜ r ≡ segment * blockSize ⌝ }
 {
     segment * Block::CELLS
+}
+
+// The cells of the segment that a pointer points to.
+pub fn segment_cells(pointer: u32) -> Range
+    requires { ⌜ pointerBit ≤ pointer ⌝ }
+    ensures { λ r. ⌜ SegmentRun (segmentOf pointer) (r .from) (r .to) ⌝ }
+{
+    let from = segment_start(Cell::segment(pointer));
+    let to = from + Block::CELLS;
+    Range { from, to }
 }
 
 // How many addresses a prefix has that lies inside a block.
@@ -24,15 +41,9 @@ fn addresses_of(length: u32) -> usize
     1usize << ((32 - length) as usize)
 }
 
-// The cells from..to.
-pub struct Range {
-    pub from: usize,
-    pub to: usize,
-}
-
 // The cells of a prefix longer than 24 in a segment.
 pub fn run_of(segment: usize, prefix: Prefix) -> Range
-    requires { ⌜ segment < mostSegments ⌝ }
+    requires { ⌜ segment < pointerBit ⌝ }
     requires { ⌜ (width < prefix .length) × (prefix .length ≤ 32) ⌝ }
     ensures { λ r. ⌜ PrefixRun prefix segment (r .from) (r .to) ⌝ }
 {

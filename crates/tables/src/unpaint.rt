@@ -109,8 +109,8 @@ fn unpaint_block(
     let start = block_start(territory, block);
     let cell = first[block];
     if Cell::is_pointer(cell) {
-        let at = place::segment_start(Cell::segment(cell));
-        return unpaint_run(long, at, at + Block::CELLS, start, rules, live, length, run);
+        let range = place::segment_cells(cell);
+        return unpaint_run(long, range.from, range.to, start, rules, live, length, run);
     }
     let step = unpainted(cell, start, length, rules, live, run);
     let next = step.cell;
@@ -155,8 +155,8 @@ fn unpaint_blocks(
             length,
             kept,
         );
-        changed += tally.changed;
         kept = tally.run;
+        changed += tally.changed;
         block += 1;
     }
     Tally { changed, run: kept }

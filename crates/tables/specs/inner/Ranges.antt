@@ -43,6 +43,11 @@ pub record InSegment (at from to : ℕ) (cells : List ℕ) : Type 0 where
 unfoldable pub twoValues : ℕ → ℕ → ℕ → ℕ → ℕ → ℕ
 twoValues from to inside around i = cond (inRange from to i) inside around
 
+-- from..to are the cells of segment s
+pub record SegmentRun (s from to : ℕ) : Type 0 where
+  pub low : from ≡ s * blockSize
+  pub high : to ≡ from + blockSize
+
 -- from..to are the cells of a prefix longer than 24 in segment s
 pub record PrefixRun (p : Prefix) (s from to : ℕ) : Type 0 where
   pub low : from ≡ s * blockSize + p .address % blockSize

@@ -1,20 +1,17 @@
 -- `fill::close` meets its contract: one run of 0 is the whole segment. Assumes nothing.
-use mathlib.Core.Path.{_≡_, refl}
-use Prim.Native.Nat.{_+_, _*_, _≤_}
+use mathlib.Core.Path.{refl}
 use native.Mathlib.Omega.{arith}
-use lib.ListN.{length}
-use denote.Ref.{now}
 use borrow.Author.Needs.{needs}
 use Rattle.ground.proofs.Lists.{differs-small}
-use Rattle.prefix.specs.Geometry.{blockSize}
 use Rattle.tables.proofs.Ranges.{run-small}
+use Rattle.tables.proofs.Blocks.{segment-within}
 use Rattle.tables.proofs.Repaints.{block-lent, points, owns}
-use Rattle.tables.proofs.Closing.{segment-inside, closed}
+use Rattle.tables.proofs.Closing.{closed}
 use Rattle.tables.proofs.fill.close.Statement.{statement}
 use Rattle.tables.proofs.fill.close.Tie as tie
 
-abbrev entry : tie.After-segment → tie.Start
-entry c = c .before .before .before .before .before
+abbrev entry : tie.After-slice-known4 → tie.Start
+entry c = c .before .before .before .before
 
 -- from where the run is filled to where the segment is known
 abbrev at-segment : tie.After-slice-known5 → tie.After-segment
@@ -24,53 +21,42 @@ mul-pointer : tie.Need-mul-pointer
 mul-pointer c = search needs
 
 slice-read-pointer : tie.Need-slice-read-pointer
-slice-read-pointer c =
-    let s = c .before .before .before .before in
-    omega (arith, block-lent (s .pre .0 .ready) (s .pre .1))
+slice-read-pointer c = let s = entry c in omega (arith, block-lent (s .pre .0 .ready) (s .pre .1))
 
 segment-requires : tie.Need-segment-requires
-segment-requires c κs =
-    let s = c .before .before .before .before in
-    omega (arith, points (s .pre .0) (s .pre .1))
+segment-requires c κs = let s = entry c in omega (arith, points (s .pre .0) (s .pre .1))
 
-segment-start-requires : tie.Need-segment-start-requires
-segment-start-requires c κs =
-    let s = entry c in
-    omega (arith, c .segment .ensures, owns (s .pre .0) (s .pre .1) .lent, s .pre .0 .ready .sized .few)
-
-inside : (c : tie.After-segment-start) → c .segment-start .result + blockSize ≤ length (now (entry (c .before) .args .long))
-inside c =
-    let s = entry (c .before) in
-    omega (arith, c .segment-start .ensures, c .before .segment .ensures, segment-inside (s .pre .0) (s .pre .1))
-
-add-fill-run : tie.Need-add-fill-run
-add-fill-run c = omega (arith, inside (c .before))
+segment-cells-requires : tie.Need-segment-cells-requires
+segment-cells-requires c κs = let s = entry (c .before) in omega (arith, points (s .pre .0) (s .pre .1))
 
 fill-run-requires : tie.Need-fill-run-requires
-fill-run-requires c κs = record { ordered = omega arith; inside = omega (arith, inside (c .before)); few = omega arith }
+fill-run-requires c κs =
+    let s = entry (c .before .before .before) in
+    let run = c .before .segment-cells .ensures in
+    segment-within (s .pre .0 .ready .sized) (owns (s .pre .0) (s .pre .1)) (omega (arith, run .low)) (omega (arith, run .high))
+    (omega (arith, run .low, run .high))
 
 mul-owners : tie.Need-mul-owners
 mul-owners c = search needs
 
 slice-write-owners : tie.Need-slice-write-owners
 slice-write-owners c =
-    let s = entry (at-segment c) in
-    omega (arith, at-segment c .segment .ensures, owns (s .pre .0) (s .pre .1) .lent)
+    let k = at-segment c in
+    let s = entry (k .before) in
+    omega (arith, k .segment .ensures, owns (s .pre .0) (s .pre .1) .lent)
 
 mul-first : tie.Need-mul-first
 mul-first c = search needs
 
 slice-write-first : tie.Need-slice-write-first
-slice-write-first c =
-    let s = entry (at-segment c) in
-    omega (arith, block-lent (s .pre .0 .ready) (s .pre .1))
+slice-write-first c = let s = entry (at-segment c .before) in omega (arith, block-lent (s .pre .0 .ready) (s .pre .1))
 
 differ-requires : tie.Need-differ-requires
 differ-requires c κs = search needs
 
 add-result : tie.Need-add-result
 add-result c =
-    let sized = entry (at-segment (c .before)) .pre .0 .ready .sized in
+    let sized = entry (at-segment (c .before) .before) .pre .0 .ready .sized in
     omega (arith, differs-small _ _ _ (c .differ .ensures), run-small (c .before .before .before .fill-run .ensures), sized .longs, sized .few)
 
 same-length : tie.Need-same-length
@@ -84,10 +70,12 @@ same-length-3 c = search needs
 
 returns : tie.Need-returns
 returns c =
+    let at-fill = c .before .before .before in
     let k = at-segment (c .before) in
-    let s = entry k in
-    closed (s .pre .0) (s .pre .1) _ (k .segment .ensures) (omega arith) (omega arith) refl (omega arith)
-    (c .before .before .before .fill-run .ensures) (c .differ .ensures)
+    let s = entry (k .before) in
+    let run = at-fill .before .before .segment-cells .ensures in
+    closed (s .pre .0) (s .pre .1) _ (k .segment .ensures) (omega (arith, k .segment .ensures, run .low)) (omega (arith, run .high)) refl (omega arith)
+    (at-fill .fill-run .ensures) (c .differ .ensures)
 
 pub close-spec : {M : Type 1} → statement M
 close-spec =
@@ -96,8 +84,7 @@ close-spec =
     mul-pointer
     slice-read-pointer
     segment-requires
-    segment-start-requires
-    add-fill-run
+    segment-cells-requires
     fill-run-requires
     mul-owners
     slice-write-owners

@@ -5,7 +5,7 @@ use Prim.Native.Nat.{_+_}
 use native.Mathlib.Omega.{arith}
 use borrow.Author.Needs.{needs}
 use Rattle.prefix.specs.declared.geometry.Blocks.{Blocks}
-use Rattle.prefix.specs.Geometry.{blockOf, blocks}
+use Rattle.prefix.specs.Geometry.{blockOf}
 use Rattle.cells.specs.Memory.{tables}
 use Rattle.cells.proofs.Lending.{few-firsts}
 use Rattle.tables.specs.inner.Ready.{Closable}
@@ -17,9 +17,6 @@ use Rattle.tables.proofs.paint.paint.Tie as tie
 from : (s : tie.Start) → s .args .blocks .from ≡ blockOf (s .args .territory) (s .args .prefix .address)
 from s = ap (λ (x : Blocks). x .from) (s .pre .1)
 
-count : (s : tie.Start) → s .args .blocks .count ≡ blocks (s .args .prefix)
-count s = ap (λ (x : Blocks). x .count) (s .pre .1)
-
 -- ---- a prefix of length up to 24
 
 abbrev entry : tie.Then1 → tie.Start
@@ -27,7 +24,7 @@ entry c = c .before .before .before .before
 
 ready : (c : tie.Then1) → let a = entry c .args in
     BlocksReady (a .territory) (a .blocks .from) (a .blocks .from + a .blocks .count) (tables (a .first) (a .long) (a .owners))
-ready c = let s = entry c in blocks-ready (s .pre .0 .ready) (from s) (c .if1 .taken) (count s)
+ready c = let s = entry c in blocks-ready (s .pre .0 .ready) (c .if1 .taken) (s .pre .1)
 
 add-to : tie.Need-add-to
 add-to c = omega (arith, ready (c .before) .within, few-firsts (ready (c .before) .sized))
@@ -46,7 +43,7 @@ returns c =
     let at-paint = c .before .before .before .before in
     let k = at-paint .before .before .before .before in
     let s = entry k in
-    blocks-repainted (s .pre .0 .ready) (from s) (k .if1 .taken) (count s) _ (at-paint .paint-blocks .ensures)
+    blocks-repainted (s .pre .0 .ready) (k .if1 .taken) (s .pre .1) _ (at-paint .paint-blocks .ensures)
 
 -- ---- a longer prefix
 

@@ -1,16 +1,12 @@
 -- `paint::paint_block` meets its contract. Where the block's first cell is a pointer, its segment is painted and nothing else is; where it is
 -- not, that cell is. Assumes nothing.
-use mathlib.Core.Path.{refl, sym, _∙_}
-use Prim.Native.Nat.{_+_, _≤_}
+use mathlib.Core.Path.{sym, _∙_}
 use native.Mathlib.Omega.{arith}
-use lib.ListN.{length}
-use denote.Ref.{now}
 use borrow.Author.Tests.{leb-true, leb-false}
 use borrow.Author.Needs.{needs}
-use Rattle.prefix.specs.Geometry.{blockSize}
 use Rattle.cells.specs.Memory.{tables}
-use Rattle.tables.specs.inner.Ready.{Points}
-use Rattle.tables.proofs.Blocks.{block-direct, block-points, owns-one, whole-lent}
+use Rattle.tables.specs.inner.Ready.{segmentAt, Owns}
+use Rattle.tables.proofs.Blocks.{block-direct, block-points, owns-one, segment-within}
 use Rattle.tables.proofs.paint.paint_block.Statement.{statement}
 use Rattle.tables.proofs.paint.paint_block.Tie as tie
 
@@ -18,13 +14,8 @@ use Rattle.tables.proofs.paint.paint_block.Tie as tie
 abbrev entry : tie.Then1 → tie.Start
 entry c = c .before .before .before .before .before .before
 
-pointer : (c : tie.Then1) → let a = entry c .args in Points (tables (a .first) (a .long) (a .owners)) (a .block)
-pointer c = leb-true _ _ (sym (c .before .is-pointer .ensures) ∙ c .if1 .taken)
-
-inside : (c : tie.After-segment-start) → c .segment-start .result + blockSize ≤ length (now (entry (c .before .before) .args .long))
-inside c =
-    let k = c .before .before in
-    omega (arith, whole-lent (entry k .pre) (pointer k) refl, c .segment-start .ensures, c .before .segment .ensures)
+owns : (c : tie.Then1) → let a = entry c .args in let T = tables (a .first) (a .long) (a .owners) in Owns T (a .block) (segmentAt T (a .block))
+owns c = owns-one (entry c .pre) (leb-true _ _ (sym (c .before .is-pointer .ensures) ∙ c .if1 .taken))
 
 mul-cell : tie.Need-mul-cell
 mul-cell c = search needs
@@ -35,19 +26,14 @@ slice-read-cell c = search needs
 is-pointer-requires : tie.Need-is-pointer-requires
 is-pointer-requires c κs = search needs
 
-segment-requires : tie.Need-segment-requires
-segment-requires c κs = pointer c
-
-segment-start-requires : tie.Need-segment-start-requires
-segment-start-requires c κs =
-    let k = c .before in
-    omega (arith, c .segment .ensures, owns-one (entry k .pre) (pointer k) .lent, entry k .pre .sized .few)
-
-add-paint-run : tie.Need-add-paint-run
-add-paint-run c = omega (arith, inside (c .before))
+segment-cells-requires : tie.Need-segment-cells-requires
+segment-cells-requires c κs = omega (arith, owns c .points)
 
 paint-run-requires : tie.Need-paint-run-requires
-paint-run-requires c κs = record { ordered = omega arith; inside = omega (arith, inside (c .before)); few = omega arith }
+paint-run-requires c κs =
+    let k = c .before .before in
+    let run = c .before .segment-cells .ensures in
+    segment-within (entry k .pre .sized) (owns k) (omega (arith, run .low)) (omega (arith, run .high)) (omega (arith, run .low, run .high))
 
 same-length : tie.Need-same-length
 same-length c = search needs
@@ -55,10 +41,9 @@ same-length c = search needs
 returns : tie.Need-returns
 returns c =
     let at-run = c .before .before in
-    let at-start = at-run .before .before in
-    let k = at-start .before .before in
-    block-points _ _ (owns-one (entry k .pre) (pointer k)) (omega (arith, at-start .segment-start .ensures, at-start .before .segment .ensures)) (omega arith)
-    (at-run .paint-run .ensures)
+    let at-cells = at-run .before .before in
+    let run = at-cells .segment-cells .ensures in
+    block-points _ _ (owns (at-cells .before)) (omega (arith, run .low)) (omega (arith, run .high)) (at-run .paint-run .ensures)
 
 paint-cell-requires : tie.Need-paint-cell-requires
 paint-cell-requires c κs = search needs
@@ -88,9 +73,7 @@ paint-block-spec =
     mul-cell
     slice-read-cell
     is-pointer-requires
-    segment-requires
-    segment-start-requires
-    add-paint-run
+    segment-cells-requires
     paint-run-requires
     same-length
     returns

@@ -1,13 +1,13 @@
 -- `unpaint::unpaint` meets its contract. A prefix of length up to 24 is a run of blocks; a longer one is a run of cells in its block's
 -- segment. The run kept at first is that of the prefix's own address. Assumes nothing.
 use mathlib.Core.Path.{_≡_, ap}
-use Prim.Native.Nat.{_+_, _-_, _^_, _≤_}
+use Prim.Native.Nat.{_+_}
 use native.Mathlib.Omega.{arith}
 use denote.Ref.{now}
 use borrow.Author.Needs.{needs}
 use Rattle.prefix.specs.declared.geometry.Blocks.{Blocks}
-use Rattle.prefix.specs.Prefixes.{span}
-use Rattle.prefix.specs.Geometry.{blockOf, blocks}
+use Rattle.prefix.specs.Geometry.{blockOf}
+use Rattle.prefix.proofs.Prefixes.{ends-within}
 use Rattle.prefix.proofs.Spans.{starts}
 use Rattle.cells.specs.Memory.{tables}
 use Rattle.cells.proofs.Lending.{few-firsts}
@@ -15,9 +15,8 @@ use Rattle.rules.specs.Rules.{routes}
 use Rattle.tables.specs.Cellwise.{unpaintCell}
 use Rattle.tables.specs.inner.Ready.{Closable}
 use Rattle.tables.specs.inner.Ranges.{BlocksReady}
-use Rattle.tables.proofs.Repaints.{block-lent, blocks-ready, blocks-repainted, closable, points, owns, run-within, run-repainted}
-use Rattle.tables.proofs.Addresses.{own-run, ends}
-use Rattle.tables.proofs.Unpainted.{kept-later, kept-run}
+use Rattle.tables.proofs.Repaints.{block-lent, blocks-ready, blocks-repainted, closable, points, owns, run-within, run-counted, run-repainted}
+use Rattle.tables.proofs.Cellwise.{kept-later, kept-run}
 use Rattle.tables.proofs.unpaint.unpaint.Statement.{statement}
 use Rattle.tables.proofs.unpaint.unpaint.Tie as tie
 
@@ -27,9 +26,6 @@ entry c = c .before .before .before .before .before
 from : (s : tie.Start) → s .args .blocks .from ≡ blockOf (s .args .territory) (s .args .prefix .address)
 from s = ap (λ (x : Blocks). x .from) (s .pre .1 .0)
 
-count : (s : tie.Start) → s .args .blocks .count ≡ blocks (s .args .prefix)
-count s = ap (λ (x : Blocks). x .count) (s .pre .1 .0)
-
 longest-requires : tie.Need-longest-requires
 longest-requires c κs = search needs
 
@@ -37,7 +33,7 @@ longest-requires c κs = search needs
 
 ready : (c : tie.Then1) → let a = entry (c .before) .args in
     BlocksReady (a .territory) (a .blocks .from) (a .blocks .from + a .blocks .count) (tables (a .first) (a .long) (a .owners))
-ready c = let s = entry (c .before) in blocks-ready (s .pre .0 .ready) (from s) (c .if1 .taken) (count s)
+ready c = let s = entry (c .before) in blocks-ready (s .pre .0 .ready) (c .if1 .taken) (s .pre .1 .0)
 
 add-to : tie.Need-add-to
 add-to c = omega (arith, ready (c .before) .within, few-firsts (ready (c .before) .sized))
@@ -61,15 +57,12 @@ returns c =
     let at-unpaint = c .before .before .before .before in
     let k = at-unpaint .before .before .before .before in
     let s = entry (k .before) in
-    blocks-repainted (s .pre .0 .ready) (from s) (k .if1 .taken) (count s) _ (at-unpaint .unpaint-blocks .ensures .blocks)
+    blocks-repainted (s .pre .0 .ready) (k .if1 .taken) (s .pre .1 .0) _ (at-unpaint .unpaint-blocks .ensures .blocks)
 
 -- ---- a longer prefix
 
 open-block : (c : tie.Else1) → let a = entry (c .before) .args in Closable (a .territory) (a .prefix) (tables (a .first) (a .long) (a .owners))
 open-block c = closable (entry (c .before) .pre .0) (c .if1 .left)
-
-end : (s : tie.Start) → s .args .prefix .address + span (s .args .prefix .length) ≤ 2 ^ 32
-end s = ends (s .pre .0 .ready .formed) (omega arith)
 
 mul-segment : tie.Need-mul-segment
 mul-segment c = let s = entry (c .before) in omega (arith, block-lent (s .pre .0 .ready) (from s), few-firsts (s .pre .0 .ready .sized))
@@ -90,9 +83,11 @@ unpaint-run-requires : tie.Need-unpaint-run-requires
 unpaint-run-requires c κs =
     let at-segment = c .before .before in
     let k = at-segment .before .before in
-    let s = entry (k .before) in (
-      run-within (open-block k) (from s) (at-segment .segment .ensures) (c .before .run-of .ensures),
-      (omega (arith, c .before .run-of .ensures .high, end s), record { listed = s .pre .1 .1; kept = kept-run (k .before .longest .ensures) }),
+    let s = entry (k .before) in
+    let run = c .before .run-of .ensures in
+    let small = ends-within (s .pre .0 .ready .formed) (omega arith) in (
+      run-within (open-block k) (from s) (at-segment .segment .ensures) run,
+      (omega (arith, run .high, small), record { listed = s .pre .1 .1; kept = kept-run (k .before .longest .ensures) }),
     )
 
 same-length-3 : tie.Need-same-length-3
@@ -107,7 +102,7 @@ returns-2 c =
     let run = at-run .before .before .run-of .ensures in
     let f = unpaintCell (s .args .prefix .length) (routes (now (s .args .rules))) in
     run-repainted (open-block k) (from s) (at-segment .segment .ensures) run f
-    (own-run (open-block k) (from s) (at-segment .segment .ensures) run f (at-run .unpaint-run .ensures .run))
+    (run-counted (open-block k) (from s) (at-segment .segment .ensures) run f (at-run .unpaint-run .ensures .run))
 
 pub unpaint-spec : {M : Type 1} → statement M
 unpaint-spec =
