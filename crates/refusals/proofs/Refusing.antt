@@ -110,38 +110,27 @@ module _ {t : Prefix} {c : Change} {m : Lent} (k : Admitted t c m) (l : isLive (
   pub live-needs-none : needsSegment t (named c) (m .tables) ≡ false
   live-needs-none = stops (needsSegment? t (named c) (m .tables)) (λ h. let g = live-points (h .0) in omega (arith, h .1))
 
--- ---- at which number the tests stop
+-- ---- the number, by what the tests answered
 
--- of a change of p, where `lets` says whether refusal 2 lets its numbers pass
-module _ (t : Prefix) {c : Change} (m : Lent) {p : Prefix} {lets : Bool} (a : Asked c p lets) where
-  number-is : number (isLent m t) lets (encloses t p) (undamaged t p m) 0 ≡ tested t c m 0
-  unfolding tested
-  number-is = ap₂ (λ (b : Bool) (q : Prefix). number (isLent m t) b (encloses t q) (undamaged t q m) 0) (a .numbers) (sym (a .names))
+-- refusals 1 to 4 of a change of p, where `lets` says whether refusal 2 lets its numbers pass
+pub by-tests : (t : Prefix) {c : Change} {p : Prefix} {lets : Bool} (m : Lent) → Asked c p lets → {x y z : Bool} → isLent m t ≡ x → lets ≡ y
+    → encloses t p ≡ z → cond (not x) 1 (cond (not y) 2 (cond (not z) 3 (unlessDamaged t p m))) ≡ tested t c m 0
+unfolding tested unlessDamaged
+by-tests t m a e f g =
+    rw (← e, ← f, ← g) (ap₂ (λ (q : Prefix) (b : Bool). number (isLent m t) b (encloses t q) (undamaged t q m) 0) (sym (a .names)) (a .numbers))
 
-  pub stops-at-1 : ¬ IsLent m t → 1 ≡ tested t c m 0
-  stops-at-1 n = rw (← number-is, stops (isLent? m t) n)
+pub by-damage : (t p : Prefix) (m : Lent) {x : Bool} → undamaged t p m ≡ x → cond (not x) 4 0 ≡ unlessDamaged t p m
+unfolding unlessDamaged
+by-damage t p m e = rw e
 
-  module _ (lent : IsLent m t) where
-    pub stops-at-2 : lets ≡ false → 2 ≡ tested t c m 0
-    stops-at-2 e = rw (← number-is, passes (isLent? m t) lent, e)
+pub by-live : (p : Prefix) (m : Lent) {x : Bool} → isLive p (routes (m .rules)) ≡ x → cond (not x) 5 0 ≡ unlessLive p m
+unfolding unlessLive
+by-live p m e = rw e
 
-    module _ (e : lets ≡ true) where
-      pub stops-at-3 : ¬ Encloses t p → 3 ≡ tested t c m 0
-      stops-at-3 n = rw (← number-is, passes (isLent? m t) lent, e, stops (encloses? t p) n)
-
-      pub goes-to-4 : Encloses t p → unlessDamaged t p m ≡ tested t c m 0
-      unfolding unlessDamaged
-      goes-to-4 i = rw (← number-is, passes (isLent? m t) lent, e, passes (encloses? t p) i)
-
--- refusal 4
-module _ (t p : Prefix) (m : Lent) where
-  pub stops-at-4 : ¬ Undamaged t p m → 4 ≡ unlessDamaged t p m
-  unfolding unlessDamaged
-  stops-at-4 n = rw (stops (undamaged? t p m) n)
-
-  pub no-damage : Undamaged t p m → 0 ≡ unlessDamaged t p m
-  unfolding unlessDamaged
-  no-damage u = rw (passes (undamaged? t p m) u)
+pub by-room : (t p : Prefix) (m : Lent) {x y z : Bool} → not (isLive p (routes (m .rules))) && noZero (m .rules) ≡ x → needsSegment t p (m .tables) ≡ y
+    → noZero (m .tables .owners) ≡ z → cond x 6 (cond (y && z) 7 0) ≡ unlessRoom t p m
+unfolding unlessRoom
+by-room t p m e f g = rw (e, f, g)
 
 -- where refusals 1 to 4 answer another number than 0, that is all, and else what follows is
 after-4 : (t : Prefix) (c : Change) (m : Lent) (next : ℕ) → cond (eqb (tested t c m 0) 0) next (tested t c m 0) ≡ tested t c m next
@@ -196,28 +185,3 @@ module _ (c : Change) {t p : Prefix} {m : Lent} {x : Checked} (k : Told t p (λ 
     -- no room, by the live rules and their number
     pub full : not (x .place .live) && eqb (x .live) (length (m .rules)) ≡ not (isLive p (routes (m .rules))) && noZero (m .rules)
     full = ap₂ (λ (a b : Bool). not a && b) (k .place zero .live) (all-live (m .rules) (x .live) (k .listed zero))
-
--- refusal 5
-module _ (p : Prefix) (m : Lent) where
-  pub stops-at-5 : isLive p (routes (m .rules)) ≡ false → 5 ≡ unlessLive p m
-  unfolding unlessLive
-  stops-at-5 e = rw e
-
-  pub is-live : isLive p (routes (m .rules)) ≡ true → 0 ≡ unlessLive p m
-  unfolding unlessLive
-  is-live e = rw e
-
--- refusals 6 and 7
-module _ (t p : Prefix) (m : Lent) where
-  pub stops-at-6 : not (isLive p (routes (m .rules))) && noZero (m .rules) ≡ true → 6 ≡ unlessRoom t p m
-  unfolding unlessRoom
-  stops-at-6 e = rw e
-
-  module _ (room : not (isLive p (routes (m .rules))) && noZero (m .rules) ≡ false) where
-    pub stops-at-7 : needsSegment t p (m .tables) ≡ true → noZero (m .tables .owners) ≡ true → 7 ≡ unlessRoom t p m
-    unfolding unlessRoom
-    stops-at-7 e f = rw (room, e, f)
-
-    pub has-room : needsSegment t p (m .tables) && noZero (m .tables .owners) ≡ false → 0 ≡ unlessRoom t p m
-    unfolding unlessRoom
-    has-room e = rw (room, e)
