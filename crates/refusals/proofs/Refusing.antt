@@ -6,7 +6,7 @@ use native.Mathlib.Omega.{arith}
 use lib.Dec.{eqb}
 use lib.ListN.{length, getD}
 use borrow.Author.Tests.{not-false}
-use Rattle.ground.proofs.Tests.{Decides, holds, fails, eqb?, passes, stops, says, cond-on, cond-off}
+use Rattle.ground.proofs.Tests.{eqb?, passes, stops, says, if-so, cond-on, cond-off}
 use Rattle.ground.proofs.Cases.{by-lt}
 use Rattle.prefix.specs.declared.Prefix.{Prefix}
 use Rattle.prefix.specs.Prefixes.{encloses, WellFormed, Encloses}
@@ -29,7 +29,7 @@ use Rattle.refusals.specs.Damage.{undamaged}
 use Rattle.refusals.specs.Codes.{Call, change, tested, unlessLive, unlessRoom, own, code}
 use Rattle.refusals.specs.inner.Checks.{Told, unlessDamaged, none, Asked}
 use Rattle.refusals.proofs.FreeWords.{all-live}
-use Rattle.refusals.proofs.Soundness.{true?, BlockSound, Undamaged, undamaged?}
+use Rattle.refusals.proofs.Soundness.{BlockSound, Undamaged, undamaged?}
 
 -- ---- what a call knows where its number is 0
 
@@ -45,30 +45,24 @@ pub record HasRoom (t p : Prefix) (m : Lent) : Type 0 where
   pub word : isLive p (routes (m .rules)) ≡ false → noZero (m .rules) ≡ false
   pub segment : needsSegment t p (m .tables) ≡ true → noZero (m .tables .owners) ≡ false
 
--- the number, by the four tests
-abbrev number : Bool → Bool → Bool → Bool → ℕ → ℕ
-number a b c d next = cond (not a) 1 (cond (not b) 2 (cond (not c) 3 (cond (not d) 4 next)))
-
-tested-0 : (t : Prefix) (c : Change) (m : Lent) (next : ℕ) → tested t c m next ≡ 0 → Admitted t c m × (next ≡ 0)
-unfolding tested
-tested-0 t c m next e = go (isLent? m t) (true? (isChange c)) (encloses? t (named c)) (undamaged? t (named c) m) e
-  where
-    go : {w x y z : Bool} → Decides (IsLent m t) w → Decides (isChange c ≡ true) x → Decides (Encloses t (named c)) y → Decides (Undamaged t (named c) m) z
-        → number w x y z next ≡ 0 → Admitted t c m × (next ≡ 0)
-    go (holds l) (holds b) (holds i) (holds u) e = (record { lent = l; numbers = b; inside = i; sound = u }, e)
-    go (holds l) (holds b) (holds i) (fails n) e = absurd (omega arith)
-    go (holds l) (holds b) (fails n) d e = absurd (omega arith)
-    go (holds l) (fails n) i d e = absurd (omega arith)
-    go (fails n) b i d e = absurd (omega arith)
-
-pub admitted : (t : Prefix) (c : Call) (m : Lent) → code t c m ≡ 0 → Admitted t (change c) m × (own t c m ≡ 0)
-unfolding code
-admitted t c m e = tested-0 t (change c) m (own t c m) e
-
 -- a number that a test picks before another is not picked where the answer is 0
 not-picked : (b : Bool) {k n : ℕ} → (k ≡ 0 → ⊥) → cond b k n ≡ 0 → (b ≡ false) × (n ≡ 0)
 not-picked true f z = absurd (f z)
 not-picked false f z = (refl, z)
+
+tested-0 : (t : Prefix) (c : Change) (m : Lent) (next : ℕ) → tested t c m next ≡ 0 → Admitted t c m × (next ≡ 0)
+unfolding tested
+tested-0 t c m next e =
+    let w = not-picked (not (isLent m t)) (λ z. omega arith) e in
+    let x = not-picked (not (isChange c)) (λ z. omega arith) (w .1) in
+    let y = not-picked (not (encloses t (named c))) (λ z. omega arith) (x .1) in
+    let z = not-picked (not (undamaged t (named c) m)) (λ z. omega arith) (y .1) in
+    let lent = if-so (isLent? m t) refl (w .0) in
+    (record { lent = lent; numbers = not-false _ (x .0); inside = if-so (encloses? _ _) refl (y .0); sound = if-so (undamaged? _ _ m) refl (z .0) }, z .1)
+
+pub admitted : (t : Prefix) (c : Call) (m : Lent) → code t c m ≡ 0 → Admitted t (change c) m × (own t c m ≡ 0)
+unfolding code
+admitted t c m e = tested-0 t (change c) m (own t c m) e
 
 -- a withdrawal or a re-homing: the prefix is live
 pub live-passed : (p : Prefix) (m : Lent) → unlessLive p m ≡ 0 → isLive p (routes (m .rules)) ≡ true
@@ -111,6 +105,9 @@ module _ {t : Prefix} {c : Change} {m : Lent} (k : Admitted t c m) (l : isLive (
   live-needs-none = stops (needsSegment? t (named c) (m .tables)) (λ h. let g = live-points (h .0) in omega (arith, h .1))
 
 -- ---- the number, by what the tests answered
+
+abbrev number : Bool → Bool → Bool → Bool → ℕ → ℕ
+number a b c d next = cond (not a) 1 (cond (not b) 2 (cond (not c) 3 (cond (not d) 4 next)))
 
 -- refusals 1 to 4 of a change of p, where `lets` says whether refusal 2 lets its numbers pass
 pub by-tests : (t : Prefix) {c : Change} {p : Prefix} {lets : Bool} (m : Lent) → Asked c p lets → {x y z : Bool} → isLent m t ≡ x → lets ≡ y

@@ -30,15 +30,15 @@ is-pointer-requires c κs = search needs
 
 -- the two cases
 other : (c : tie.Then1) → let s = c .before .before .before .before .before .before .args in getD (s .first .now) (s .block) 0 < pointerBit
-other c = let s = c .before .before .before .before .before .before .args in lt-of-not-le (if-not (leb? pointerBit (getD (s .first .now) (s .block) 0)) (c .before .is-pointer .ensures) (c .if1 .taken))
+other c = let s = c .before .before .before .before .before .before .args in lt-of-not-le (if-not (leb? _ _) (c .before .is-pointer .ensures) (c .if1 .taken))
 
 pointer : (c : tie.Else1) → let s = c .before .before .before .before .before .before .args in pointerBit ≤ getD (s .first .now) (s .block) 0
-pointer c = let s = c .before .before .before .before .before .before .args in if-so (leb? pointerBit (getD (s .first .now) (s .block) 0)) (c .before .is-pointer .ensures) (c .if1 .left)
+pointer c = let s = c .before .before .before .before .before .before .args in if-so (leb? _ _) (c .before .is-pointer .ensures) (c .if1 .left)
 
 returns : tie.Need-returns
 returns c =
     let s = c .before .before .before .before .before .before .before in
-    sym (stops (soundBy? (tables-of s) (s .args .block) (s .args .opened)) (λ b. true≢false (sym (c .if2 .taken) ∙ b .other (other (c .before)) .1)))
+    sym (stops (soundBy? _ _ _) (λ b. true≢false (sym (c .if2 .taken) ∙ b .other (other (c .before)) .1)))
 
 is-clean-requires : tie.Need-is-clean-requires
 is-clean-requires c κs = search needs
@@ -48,14 +48,14 @@ returns-2 c =
     let s = c .before .before .before .before .before .before .before .before in
     let o = other (c .before .before) in
     c .is-clean .ensures
-    ∙ same-test (isClean? width (getD (s .args .first .now) (s .args .block) 0))
-    (iff? (soundBy? (tables-of s) (s .args .block) (s .args .opened)) (λ b. b .other o .0)
+    ∙ same-test (isClean? _ _)
+    (iff? (soundBy? _ _ _) (λ b. b .other o .0)
     (λ k. record { pointer = λ p. absurd (omega arith); other = λ l. (k, c .before .if2 .left) }))
 
 returns-3 : tie.Need-returns-3
 returns-3 c =
     let s = c .before .before .before .before .before .before .before in
-    sym (stops (soundBy? (tables-of s) (s .args .block) (s .args .opened)) (λ b. true≢false (sym (b .pointer (pointer (c .before)) .1) ∙ not-true _ (c .if3 .taken))))
+    sym (stops (soundBy? _ _ _) (λ b. true≢false (sym (b .pointer (pointer (c .before)) .1) ∙ not-true _ (c .if3 .taken))))
 
 segment-requires : tie.Need-segment-requires
 segment-requires c κs = pointer (c .before)
@@ -70,8 +70,8 @@ returns-4 c =
     let p = pointer (c .before .before .before) in
     c .segment-sound .ensures
     ∙ ap (segmentSound (tables-of s) (s .args .block)) (c .before .segment .ensures)
-    ∙ same-test (segmentSound? (tables-of s) (s .args .block) (segmentOf (getD (s .args .first .now) (s .args .block) 0)))
-    (iff? (soundBy? (tables-of s) (s .args .block) (s .args .opened)) (λ b. b .pointer p .0)
+    ∙ same-test (segmentSound? _ _ _)
+    (iff? (soundBy? _ _ _) (λ b. b .pointer p .0)
     (λ k. record { pointer = λ q. (k, not-false _ (c .before .before .if3 .left)); other = λ l. absurd (omega arith) }))
 
 pub block-sound-spec : {M : Type 1} → statement M
