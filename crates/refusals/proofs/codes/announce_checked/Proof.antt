@@ -35,7 +35,7 @@ is-route-requires : tie.Need-is-route-requires
 is-route-requires c κs = search needs
 
 tests-requires : tie.Need-tests-requires
-tests-requires c κs = λ e. says (isRoute? (route (c .before .before .before .before .before))) (sym (c .is-route .ensures) ∙ e) .formed
+tests-requires c κs = λ e. says (isRoute? _) (sym (c .is-route .ensures) ∙ e) .formed
 
 -- what the tests answered
 told : (c : tie.After-tests) → let s = c .before .before .before .before .before .before in

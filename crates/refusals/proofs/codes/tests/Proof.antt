@@ -30,7 +30,7 @@ returns c = λ ch a.
 
 -- past the first test what is lent is right
 lent-right : (c : tie.Else1) → let s = c .before .before .before .before .before .before in IsLent (lent-of s) (s .args .territory)
-lent-right c = let s = c .before .before .before .before .before .before in if-so (isLent? (lent-of s) (s .args .territory)) (c .before .lent .ensures) (c .if1 .left)
+lent-right c = let s = c .before .before .before .before .before .before in if-so (isLent? _ _) (c .before .lent .ensures) (c .if1 .left)
 
 refused-requires-2 : tie.Need-refused-requires-2
 refused-requires-2 c κs = search needs
@@ -56,7 +56,7 @@ returns-3 c = λ ch a.
 
 -- past the third the prefix is inside the territory
 inside : (c : tie.Else3) → let s = c .before .before .before .before .before .before .before .before .before .args in Encloses (s .territory) (s .prefix)
-inside c = let s = c .before .before .before .before .before .before .before .before .before .args in if-so (encloses? (s .territory) (s .prefix)) (c .before .encloses .ensures) (c .if3 .left)
+inside c = if-so (encloses? _ _) (c .before .encloses .ensures) (c .if3 .left)
 
 undamaged-requires : tie.Need-undamaged-requires
 undamaged-requires c κs = (lent-right (c .before .before .before), (c .before .before .before .before .before .before .before .before .before .pre (not-false _ (c .before .before .if2 .left)), inside c))

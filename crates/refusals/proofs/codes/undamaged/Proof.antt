@@ -32,12 +32,12 @@ returns : tie.Need-returns
 returns c =
     let s = c .before .before .before .before .before .before .before .before in
     let four : 4 ≡ unlessDamaged (s .args .territory) (s .args .prefix) (lent-of s) = by-damage _ _ (lent-of s) (stops (undamaged? _ _ (lent-of s)) (λ u.
-    if-not (formed? (s .args .territory) (s .args .rules .now)) (c .before .before .before .form-of .ensures .test) (c .before .if1 .taken) (u .rules))) in
+    if-not (formed? _ _) (c .before .before .before .form-of .ensures .test) (c .before .if1 .taken) (u .rules))) in
     refused-is four (omega (arith, c .refused .ensures)) (λ z. omega arith)
 
 -- past the first test the rule words have their form
 formed : (c : tie.Else1) → let s = c .before .before .before .before .before .before .before .args in Formed (s .territory) (s .rules .now)
-formed c = let s = c .before .before .before .before .before .before .before .args in if-so (formed? (s .territory) (s .rules .now)) (c .before .before .form-of .ensures .test) (c .if1 .left)
+formed c = if-so (formed? _ _) (c .before .before .form-of .ensures .test) (c .if1 .left)
 
 listed : (c : tie.Else1) → Listed (c .before .before .before .before .before .before .before .args .rules .now) (c .before .before .form-of .result .live)
 listed c = subst (Listed (c .before .before .before .before .before .before .before .args .rules .now)) (sym (c .before .before .form-of .ensures .count (not-false _ (c .if1 .left)))) (formed-listed (formed c))
