@@ -120,7 +120,7 @@ returns-5 c =
       listed = k .listed;
       place = k .place;
       blocks = k .blocks;
-      opens = λ z. sym yes;
+      opens = λ z. search (sym yes);
       segment = λ z e. c .before .free-segment .ensures;
     }
 

@@ -1,6 +1,6 @@
 -- `damage::block_sound` meets its contract: the two cases of a block, each with its own test of whether it is open. Assumes nothing.
-use mathlib.Core.Path.{sym, ap, _∙_}
-use mathlib.Core.Bool.{true≢false}
+use mathlib.Core.Path.{_≡_, sym, ap, _∙_}
+use mathlib.Core.Bool.{false, true≢false}
 use Prim.Native.Nat.{_≤_, _<_}
 use native.Mathlib.Nat.{lt-of-not-le}
 use native.Mathlib.Omega.{arith}
@@ -9,7 +9,7 @@ use borrow.Author.Tests.{not-true, not-false}
 use Rattle.ground.proofs.Tests.{leb?, iff?, stops, same-test, if-so, if-not}
 use Rattle.cells.specs.Cells.{pointerBit}
 use Rattle.cells.specs.Memory.{Tables, tables}
-use Rattle.refusals.specs.Damage.{segmentSound}
+use Rattle.refusals.specs.Damage.{segmentSound, soundBy}
 use Rattle.refusals.proofs.Soundness.{isClean?, segmentSound?, soundBy?}
 use borrow.Author.Needs.{needs}
 use Rattle.refusals.proofs.damage.block_sound.Statement.{statement}
@@ -46,7 +46,11 @@ returns-2 c =
     (λ k. record { pointer = λ p. absurd (omega arith); other = λ l. (k, c .before .if2 .left) }))
 
 returns-3 : tie.Need-returns-3
-returns-3 c = sym (stops (soundBy? _ _ _) (λ b. true≢false (sym (b .pointer (pointer (c .before)) .1) ∙ not-true _ (c .if3 .taken))))
+returns-3 c =
+    let s = c .before .before .before .before .before .before .before .args in
+    let damaged : soundBy (tables (s .first) (s .long) (s .owners)) (s .block) (s .opened) ≡ false =
+    stops (soundBy? _ _ _) (λ b. true≢false (sym (b .pointer (pointer (c .before)) .1) ∙ not-true _ (c .if3 .taken))) in
+    search (sym damaged)
 
 segment-requires : tie.Need-segment-requires
 segment-requires c κs = pointer (c .before)
