@@ -27,7 +27,7 @@ use Rattle.rules.proofs.Indices.{isLive?}
 use Rattle.refusals.specs.declared.codes.Checked.{Checked}
 use Rattle.refusals.specs.Damage.{undamaged}
 use Rattle.refusals.specs.Codes.{Call, change, tested, unlessLive, unlessRoom, own, code}
-use Rattle.refusals.specs.inner.Checks.{Told, unlessDamaged, none, Asked}
+use Rattle.refusals.specs.inner.Checks.{Told, unlessDamaged, never, Asked}
 use Rattle.refusals.proofs.FreeWords.{all-live}
 use Rattle.refusals.proofs.Soundness.{BlockSound, Undamaged, undamaged?}
 
@@ -167,7 +167,7 @@ module _ {t p : Prefix} {m : Lent} where
   }
 
 -- x is what refusals 1 to 4 answered
-module _ (c : Change) {t p : Prefix} {m : Lent} {x : Checked} (k : Told t p (λ n. tested t c n 0) none m x) where
+module _ (c : Change) {t p : Prefix} {m : Lent} {x : Checked} (k : Told t p (λ n. tested t c n 0) never m x) where
   pub stays : (next : Lent → ℕ) {opened : Tables → Bool} → ¬ (x .code ≡ 0) → Told t p (λ n. tested t c n (next n)) opened m x
   stays next n =
       told-as k (sym (cond-off (next m) (tested t c m 0) (eqb? (tested t c m 0) 0) (λ z. n (k .number ∙ z))) ∙ after-4 t c m (next m)) (λ z. absurd (n z))

@@ -185,7 +185,7 @@ pub fn is_open(rules: &[u64], live: usize, start: u32) -> bool
     passed.opened
 }
 
-// The same, with the cursor yet to be set.
+// Whether each of the blocks is sound: the cursor is set where the first of them starts, and the walk does the rest.
 pub fn blocks_sound(
     first: &[u32],
     long: &[u32],

@@ -2,7 +2,7 @@
 -- else no segment for the block; a segment that is needed is the lowest free one. Assumes nothing.
 use mathlib.Core.Path.{_≡_, refl, sym, ap, _∙_}
 use mathlib.Core.Bool.{not, _&&_}
-use Prim.Native.Nat.{ℕ, _<_}
+use Prim.Native.Nat.{_<_}
 use native.Mathlib.Omega.{arith}
 use lib.Dec.{ltb}
 use lib.ListN.{length, getD}
@@ -19,7 +19,7 @@ use Rattle.cells.proofs.FreeSegments.{noZero?}
 use Rattle.rules.specs.Words.{routeBy}
 use Rattle.rules.specs.Rules.{routes, isLive}
 use Rattle.refusals.specs.Codes.{tested, unlessRoom, code}
-use Rattle.refusals.specs.inner.Checks.{Told, none}
+use Rattle.refusals.specs.inner.Checks.{Told, never}
 use Rattle.refusals.proofs.Refusing.{refused-is, told-as, stays, goes-on, let-pass, full, by-room}
 use borrow.Author.Needs.{needs}
 use Rattle.refusals.proofs.codes.announce_checked.Statement.{statement}
@@ -39,7 +39,7 @@ tests-requires c κs = λ e. says (isRoute? _) (sym (c .is-route .ensures) ∙ e
 
 -- what the tests answered
 told : (c : tie.After-tests) → let s = c .before .before .before .before .before .before in
-    Told (s .args .territory) (s .args .prefix) (λ m. tested (s .args .territory) (puts (route s)) m 0) none (lent-of s) (c .tests .result)
+    Told (s .args .territory) (s .args .prefix) (λ m. tested (s .args .territory) (puts (route s)) m 0) never (lent-of s) (c .tests .result)
 unfolding isChange
 told c = c .tests .ensures (puts (route (c .before .before .before .before .before .before))) (record { names = refl; numbers = c .before .is-route .ensures })
 

@@ -58,12 +58,12 @@ returns-3 c = λ ch a.
 inside : (c : tie.Else3) → let s = c .before .before .before .before .before .before .before .before .before .args in Encloses (s .territory) (s .prefix)
 inside c = if-so (encloses? _ _) (c .before .encloses .ensures) (c .if3 .left)
 
-undamaged-requires : tie.Need-undamaged-requires
-undamaged-requires c κs = (lent-right (c .before .before .before), (c .before .before .before .before .before .before .before .before .before .pre (not-false _ (c .before .before .if2 .left)), inside c))
+damage-tests-requires : tie.Need-damage-tests-requires
+damage-tests-requires c κs = (lent-right (c .before .before .before), (c .before .before .before .before .before .before .before .before .before .pre (not-false _ (c .before .before .if2 .left)), inside c))
 
 returns-4 : tie.Need-returns-4
 returns-4 c = λ ch a.
-    told-as (c .undamaged .ensures)
+    told-as (c .damage-tests .ensures)
     (by-tests _ (lent-of (c .before .before .before .before .before .before .before .before .before .before)) a (sym (c .before .before .before .before .before .lent .ensures) ∙ not-false _ (c .before .before .before .before .if1 .left)) (not-false _ (c .before .before .before .if2 .left)) (sym (c .before .before .encloses .ensures) ∙ not-false _ (c .before .if3 .left)))
     (λ z. refl)
 
@@ -79,5 +79,5 @@ tests-spec =
     encloses-requires
     refused-requires-3
     returns-3
-    undamaged-requires
+    damage-tests-requires
     returns-4)

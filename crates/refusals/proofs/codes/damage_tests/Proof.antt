@@ -1,4 +1,4 @@
--- `codes::undamaged` meets its contract: each way out is the answer of the tests up to there. Assumes nothing.
+-- `codes::damage_tests` meets its contract: each way out is the answer of the tests up to there. Assumes nothing.
 use mathlib.Core.Path.{_≡_, refl, sym, ap, subst, _∙_}
 use mathlib.Core.Bool.{false≢true}
 use native.Mathlib.Omega.{arith}
@@ -16,8 +16,8 @@ use Rattle.refusals.proofs.Soundness.{soundRun?, undamaged?}
 use Rattle.refusals.proofs.Turns.{touched-lent}
 use Rattle.refusals.proofs.Refusing.{by-damage, refused-is}
 use borrow.Author.Needs.{needs}
-use Rattle.refusals.proofs.codes.undamaged.Statement.{statement}
-use Rattle.refusals.proofs.codes.undamaged.Tie as tie
+use Rattle.refusals.proofs.codes.damage_tests.Statement.{statement}
+use Rattle.refusals.proofs.codes.damage_tests.Tie as tie
 
 abbrev lent-of : tie.Start → Lent
 lent-of s = lent (s .args .first) (s .args .long) (s .args .owners) (s .args .rules)
@@ -83,8 +83,8 @@ returns-3 c =
       segment = λ z e. absurd (false≢true e);
     }
 
-pub undamaged-spec : {M : Type 1} → statement M
-undamaged-spec =
+pub damage-tests-spec : {M : Type 1} → statement M
+damage-tests-spec =
     tie.close
     (tie.spec
     form-of-requires
