@@ -6,7 +6,7 @@ use native.Mathlib.Omega.{arith}
 use lib.Dec.{eqb}
 use lib.ListN.{length, getD}
 use borrow.Author.Tests.{not-false}
-use Rattle.ground.proofs.Tests.{Decides, holds, fails, eqb?, passes, stops, says, cond-on, cond-off}
+use Rattle.ground.proofs.Tests.{eqb?, passes, stops, says, if-so, cond-on, cond-off}
 use Rattle.ground.proofs.Cases.{by-lt}
 use Rattle.prefix.specs.declared.Prefix.{Prefix}
 use Rattle.prefix.specs.Prefixes.{encloses, WellFormed, Encloses}
@@ -26,9 +26,9 @@ use Rattle.rules.proofs.Indices.{isLive?}
 use Rattle.refusals.specs.declared.codes.Checked.{Checked}
 use Rattle.refusals.specs.Damage.{undamaged}
 use Rattle.refusals.specs.Codes.{Call, change, tested, unlessLive, unlessRoom, own, code}
-use Rattle.refusals.specs.inner.Checks.{Told, unlessDamaged, none, Asked}
+use Rattle.refusals.specs.inner.Checks.{Told, unlessDamaged, never, Asked}
 use Rattle.refusals.proofs.FreeWords.{all-live}
-use Rattle.refusals.proofs.Soundness.{true?, BlockSound, Undamaged, undamaged?}
+use Rattle.refusals.proofs.Soundness.{BlockSound, Undamaged, undamaged?}
 
 -- ---- what a call knows where its number is 0
 
@@ -44,30 +44,24 @@ pub record HasRoom (t p : Prefix) (m : Lent) : Type 0 where
   pub word : isLive p (routes (m .rules)) ≡ false → noZero (m .rules) ≡ false
   pub segment : needsSegment t p (m .tables) ≡ true → noZero (m .tables .owners) ≡ false
 
--- the number, by the four tests
-abbrev number : Bool → Bool → Bool → Bool → ℕ → ℕ
-number a b c d next = cond (not a) 1 (cond (not b) 2 (cond (not c) 3 (cond (not d) 4 next)))
-
-tested-0 : (t : Prefix) (c : Change) (m : Lent) (next : ℕ) → tested t c m next ≡ 0 → Admitted t c m × (next ≡ 0)
-unfolding tested
-tested-0 t c m next e = go (isLent? m t) (true? (isChange c)) (encloses? t (named c)) (undamaged? t (named c) m) e
-  where
-    go : {w x y z : Bool} → Decides (IsLent m t) w → Decides (isChange c ≡ true) x → Decides (Encloses t (named c)) y → Decides (Undamaged t (named c) m) z
-        → number w x y z next ≡ 0 → Admitted t c m × (next ≡ 0)
-    go (holds l) (holds b) (holds i) (holds u) e = (record { lent = l; numbers = b; inside = i; sound = u }, e)
-    go (holds l) (holds b) (holds i) (fails n) e = absurd (omega arith)
-    go (holds l) (holds b) (fails n) d e = absurd (omega arith)
-    go (holds l) (fails n) i d e = absurd (omega arith)
-    go (fails n) b i d e = absurd (omega arith)
-
-pub admitted : (t : Prefix) (c : Call) (m : Lent) → code t c m ≡ 0 → Admitted t (change c) m × (own t c m ≡ 0)
-unfolding code
-admitted t c m e = tested-0 t (change c) m (own t c m) e
-
 -- a number that a test picks before another is not picked where the answer is 0
 not-picked : (b : Bool) {k n : ℕ} → (k ≡ 0 → ⊥) → cond b k n ≡ 0 → (b ≡ false) × (n ≡ 0)
 not-picked true f z = absurd (f z)
 not-picked false f z = (refl, z)
+
+tested-0 : (t : Prefix) (c : Change) (m : Lent) (next : ℕ) → tested t c m next ≡ 0 → Admitted t c m × (next ≡ 0)
+unfolding tested
+tested-0 t c m next e =
+    let w = not-picked (not (isLent m t)) (λ z. omega arith) e in
+    let x = not-picked (not (isChange c)) (λ z. omega arith) (w .1) in
+    let y = not-picked (not (encloses t (named c))) (λ z. omega arith) (x .1) in
+    let z = not-picked (not (undamaged t (named c) m)) (λ z. omega arith) (y .1) in
+    let lent = if-so (isLent? m t) refl (w .0) in
+    (record { lent = lent; numbers = not-false _ (x .0); inside = if-so (encloses? _ _) refl (y .0); sound = if-so (undamaged? _ _ m) refl (z .0) }, z .1)
+
+pub admitted : (t : Prefix) (c : Call) (m : Lent) → code t c m ≡ 0 → Admitted t (change c) m × (own t c m ≡ 0)
+unfolding code
+admitted t c m e = tested-0 t (change c) m (own t c m) e
 
 -- a withdrawal or a re-homing: the prefix is live
 pub live-passed : (p : Prefix) (m : Lent) → unlessLive p m ≡ 0 → isLive p (routes (m .rules)) ≡ true
@@ -109,38 +103,30 @@ module _ {t : Prefix} {c : Change} {m : Lent} (k : Admitted t c m) (l : isLive (
   pub live-needs-none : needsSegment t (named c) (m .tables) ≡ false
   live-needs-none = stops (needsSegment? t (named c) (m .tables)) (λ h. let g = live-points (h .0) in omega (arith, h .1))
 
--- ---- at which number the tests stop
+-- ---- the number, by what the tests answered
 
--- of a change of p, where `lets` says whether refusal 2 lets its numbers pass
-module _ (t : Prefix) {c : Change} (m : Lent) {p : Prefix} {lets : Bool} (a : Asked c p lets) where
-  number-is : number (isLent m t) lets (encloses t p) (undamaged t p m) 0 ≡ tested t c m 0
-  unfolding tested
-  number-is = ap₂ (λ (b : Bool) (q : Prefix). number (isLent m t) b (encloses t q) (undamaged t q m) 0) (a .numbers) (sym (a .names))
+abbrev number : Bool → Bool → Bool → Bool → ℕ → ℕ
+number a b c d next = cond (not a) 1 (cond (not b) 2 (cond (not c) 3 (cond (not d) 4 next)))
 
-  pub stops-at-1 : ¬ IsLent m t → 1 ≡ tested t c m 0
-  stops-at-1 n = rw (← number-is, stops (isLent? m t) n)
+-- refusals 1 to 4 of a change of p, where `lets` says whether refusal 2 lets its numbers pass
+pub by-tests : (t : Prefix) {c : Change} {p : Prefix} {lets : Bool} (m : Lent) → Asked c p lets → {x y z : Bool} → isLent m t ≡ x → lets ≡ y
+    → encloses t p ≡ z → cond (not x) 1 (cond (not y) 2 (cond (not z) 3 (unlessDamaged t p m))) ≡ tested t c m 0
+unfolding tested unlessDamaged
+by-tests t m a e f g =
+    rw (← e, ← f, ← g) (ap₂ (λ (q : Prefix) (b : Bool). number (isLent m t) b (encloses t q) (undamaged t q m) 0) (sym (a .names)) (a .numbers))
 
-  module _ (lent : IsLent m t) where
-    pub stops-at-2 : lets ≡ false → 2 ≡ tested t c m 0
-    stops-at-2 e = rw (← number-is, passes (isLent? m t) lent, e)
+pub by-damage : (t p : Prefix) (m : Lent) {x : Bool} → undamaged t p m ≡ x → cond (not x) 4 0 ≡ unlessDamaged t p m
+unfolding unlessDamaged
+by-damage t p m e = rw e
 
-    module _ (e : lets ≡ true) where
-      pub stops-at-3 : ¬ Encloses t p → 3 ≡ tested t c m 0
-      stops-at-3 n = rw (← number-is, passes (isLent? m t) lent, e, stops (encloses? t p) n)
+pub by-live : (p : Prefix) (m : Lent) {x : Bool} → isLive p (routes (m .rules)) ≡ x → cond (not x) 5 0 ≡ unlessLive p m
+unfolding unlessLive
+by-live p m e = rw e
 
-      pub goes-to-4 : Encloses t p → unlessDamaged t p m ≡ tested t c m 0
-      unfolding unlessDamaged
-      goes-to-4 i = rw (← number-is, passes (isLent? m t) lent, e, passes (encloses? t p) i)
-
--- refusal 4
-module _ (t p : Prefix) (m : Lent) where
-  pub stops-at-4 : ¬ Undamaged t p m → 4 ≡ unlessDamaged t p m
-  unfolding unlessDamaged
-  stops-at-4 n = rw (stops (undamaged? t p m) n)
-
-  pub no-damage : Undamaged t p m → 0 ≡ unlessDamaged t p m
-  unfolding unlessDamaged
-  no-damage u = rw (passes (undamaged? t p m) u)
+pub by-room : (t p : Prefix) (m : Lent) {x y z : Bool} → not (isLive p (routes (m .rules))) && noZero (m .rules) ≡ x → needsSegment t p (m .tables) ≡ y
+    → noZero (m .tables .owners) ≡ z → cond x 6 (cond (y && z) 7 0) ≡ unlessRoom t p m
+unfolding unlessRoom
+by-room t p m e f g = rw (e, f, g)
 
 -- where refusals 1 to 4 answer another number than 0, that is all, and else what follows is
 after-4 : (t : Prefix) (c : Change) (m : Lent) (next : ℕ) → cond (eqb (tested t c m 0) 0) next (tested t c m 0) ≡ tested t c m next
@@ -180,7 +166,7 @@ module _ {t p : Prefix} {m : Lent} where
   }
 
 -- x is what refusals 1 to 4 answered
-module _ (c : Change) {t p : Prefix} {m : Lent} {x : Checked} (k : Told t p (λ n. tested t c n 0) none m x) where
+module _ (c : Change) {t p : Prefix} {m : Lent} {x : Checked} (k : Told t p (λ n. tested t c n 0) never m x) where
   pub stays : (next : Lent → ℕ) {opened : Tables → Bool} → ¬ (x .code ≡ 0) → Told t p (λ n. tested t c n (next n)) opened m x
   stays next n =
       told-as k (sym (cond-off (next m) (tested t c m 0) (eqb? (tested t c m 0) 0) (λ z. n (k .number ∙ z))) ∙ after-4 t c m (next m)) (λ z. absurd (n z))
@@ -195,28 +181,3 @@ module _ (c : Change) {t p : Prefix} {m : Lent} {x : Checked} (k : Told t p (λ 
     -- no room, by the live rules and their number
     pub full : not (x .place .live) && eqb (x .live) (length (m .rules)) ≡ not (isLive p (routes (m .rules))) && noZero (m .rules)
     full = ap₂ (λ (a b : Bool). not a && b) (k .place zero .live) (all-live (m .rules) (x .live) (k .listed zero))
-
--- refusal 5
-module _ (p : Prefix) (m : Lent) where
-  pub stops-at-5 : isLive p (routes (m .rules)) ≡ false → 5 ≡ unlessLive p m
-  unfolding unlessLive
-  stops-at-5 e = rw e
-
-  pub is-live : isLive p (routes (m .rules)) ≡ true → 0 ≡ unlessLive p m
-  unfolding unlessLive
-  is-live e = rw e
-
--- refusals 6 and 7
-module _ (t p : Prefix) (m : Lent) where
-  pub stops-at-6 : not (isLive p (routes (m .rules))) && noZero (m .rules) ≡ true → 6 ≡ unlessRoom t p m
-  unfolding unlessRoom
-  stops-at-6 e = rw e
-
-  module _ (room : not (isLive p (routes (m .rules))) && noZero (m .rules) ≡ false) where
-    pub stops-at-7 : needsSegment t p (m .tables) ≡ true → noZero (m .tables .owners) ≡ true → 7 ≡ unlessRoom t p m
-    unfolding unlessRoom
-    stops-at-7 e f = rw (room, e, f)
-
-    pub has-room : needsSegment t p (m .tables) && noZero (m .tables .owners) ≡ false → 0 ≡ unlessRoom t p m
-    unfolding unlessRoom
-    has-room e = rw (room, e)

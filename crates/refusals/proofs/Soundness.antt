@@ -63,8 +63,7 @@ pub record SegmentSound (tables : Tables) (block s : ℕ) : Type 0 where
 pub segmentSound? : (tables : Tables) (block s : ℕ) → Decides (SegmentSound tables block s) (segmentSound tables block s)
 unfolding segmentSound cleanRun
 segmentSound? tables block s =
-    iff?
-    (and? (and? (ltb? s (length (tables .owners))) (eqb? (getD (tables .owners) s 0) (block + 1))) (cleanRun? 32 (tables .long) (s * blockSize) blockSize))
+    iff? (and? (and? (ltb? s _) (eqb? (getD (tables .owners) s 0) _)) (cleanRun? 32 (tables .long) (s * blockSize) blockSize))
     (λ h. record { lent = h .0 .0; owned = h .0 .1; clean = h .1 })
     (λ s. ((s .lent, s .owned), s .clean))
 

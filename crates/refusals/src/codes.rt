@@ -7,7 +7,7 @@ ghost use Rattle.prefix.specs.Routes.{isRoute};
 ghost use Rattle.rules.specs.Words.{routeBy};
 ghost use Rattle.cells.specs.Memory.{IsLent, lent, lentIn};
 ghost use Rattle.refusals.specs.Codes.{announces, withdraws, re-homes, clearCode};
-ghost use Rattle.refusals.specs.inner.Checks.{CheckedIs, Told, unlessDamaged, none, TestsTell, LiveTestsTell};
+ghost use Rattle.refusals.specs.inner.Checks.{CheckedIs, Told, unlessDamaged, never, TestsTell, LiveTestsTell};
 use crate::damage::blocks_sound;
 use cells::cell::Cell;
 use cells::segments::free_segment;
@@ -58,7 +58,7 @@ fn is_route(prefix: Prefix, hop: u32) -> bool
 }
 
 // Refusal 4. Past it the prefix is looked for in the list.
-fn undamaged(
+fn damage_tests(
     first: &[u32],
     long: &[u32],
     owners: &[u32],
@@ -68,7 +68,7 @@ fn undamaged(
 ) -> Checked
     requires { ⌜ IsLent (lent first long owners rules) territory ⌝ }
     requires { ⌜ WellFormed prefix × Encloses territory prefix ⌝ }
-    ensures { λ r. ⌜ Told territory prefix (unlessDamaged territory prefix) none (lentIn first long owners rules) r ⌝ }
+    ensures { λ r. ⌜ Told territory prefix (unlessDamaged territory prefix) never (lentIn first long owners rules) r ⌝ }
 {
     let form = form_of(rules, territory);
     let live = form.live;
@@ -118,7 +118,7 @@ fn tests(
     if !territory.encloses(prefix) {
         return refused(3);
     }
-    undamaged(first, long, owners, rules, territory, prefix)
+    damage_tests(first, long, owners, rules, territory, prefix)
 }
 
 // Refusals 1 to 5: of an update of a live prefix. Its block has a segment, if it is longer than 24, since nothing is damaged.

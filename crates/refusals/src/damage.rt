@@ -113,7 +113,7 @@ fn walk(
     true
 }
 
-// The same, with the cursor yet to be set.
+// Whether each of the blocks is sound: the cursor is set where the first of them starts, and the walk does the rest.
 pub fn blocks_sound(
     first: &[u32],
     long: &[u32],

@@ -31,8 +31,9 @@ CheckedIs t c m r = Told t (named (change c)) (code t c) (needsSegment t (named 
 unfoldable pub unlessDamaged : Prefix → Prefix → Lent → ℕ
 unlessDamaged t p m = cond (not (undamaged t p m)) 4 0
 
-abbrev pub none : Tables → Bool
-none tables = false
+-- no segment is opened, or it is not known yet
+abbrev pub never : Tables → Bool
+never tables = false
 
 -- c is a change of the prefix p, and `lets` says whether refusal 2 lets its numbers pass
 pub record Asked (c : Change) (p : Prefix) (lets : Bool) : Type 0 where
@@ -41,7 +42,7 @@ pub record Asked (c : Change) (p : Prefix) (lets : Bool) : Type 0 where
 
 -- what any such change is told by refusals 1 to 4, and by those and 5
 abbrev pub TestsTell : Prefix → Prefix → Bool → Lent → Checked → Type 0
-TestsTell t p lets m r = (c : Change) → Asked c p lets → Told t p (λ m. tested t c m 0) none m r
+TestsTell t p lets m r = (c : Change) → Asked c p lets → Told t p (λ m. tested t c m 0) never m r
 
 abbrev pub LiveTestsTell : Prefix → Prefix → Bool → Lent → Checked → Type 0
 LiveTestsTell t p lets m r = (c : Change) → Asked c p lets → Told t p (λ m. tested t c m (unlessLive p m)) (needsSegment t p) m r

@@ -25,10 +25,7 @@ shared-slice-read-if1 : tie.Need-shared-slice-read-if1 Inv-loop μ-loop
 shared-slice-read-if1 c = search needs
 
 returns : tie.Need-returns Inv-loop μ-loop
-returns c =
-    let s = c .before .before .before .before .args in
-    let l = c .before .before .before .loop in
-    sym (lowest-is (s .owners .now) (l .i) (omega arith) (l .inv .0) (c .if1 .taken))
+returns c = sym (lowest-is _ _ (omega arith) (c .before .before .before .loop .inv .0) (c .if1 .taken))
 
 add-i : tie.Need-add-i Inv-loop μ-loop
 add-i c = search needs
@@ -40,10 +37,7 @@ loop-again : tie.Need-loop-again Inv-loop μ-loop
 loop-again c = (below-more _ _ (c .before .before .before .loop .inv .0) (c .if1 .left), search needs)
 
 returns-2 : tie.Need-returns-2 Inv-loop μ-loop
-returns-2 c =
-    let s = c .before .before .args in
-    let l = c .before .loop in
-    sym (lowest-is (s .owners .now) (l .i) (omega arith) (l .inv .0) (List·getD-eq-default (s .owners .now) 0 (c .loop-test .left)))
+returns-2 c = sym (lowest-is _ _ (omega arith) (c .before .loop .inv .0) (List·getD-eq-default (c .before .before .args .owners .now) 0 (c .loop-test .left)))
 
 pub free-segment-spec : {M : Type 1} → statement M
 free-segment-spec =

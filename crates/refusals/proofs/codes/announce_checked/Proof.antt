@@ -1,8 +1,8 @@
 -- `codes::announce_checked` meets its contract: what the tests answered stands, unless all let pass and there is no room in the list, or
 -- else no segment for the block; a segment that is needed is the lowest free one. Assumes nothing.
-use mathlib.Core.Path.{_≡_, refl, sym, ap, ap₂, _∙_}
-use mathlib.Core.Bool.{Bool, not, _&&_}
-use Prim.Native.Nat.{ℕ, _<_}
+use mathlib.Core.Path.{_≡_, refl, sym, ap, _∙_}
+use mathlib.Core.Bool.{not, _&&_}
+use Prim.Native.Nat.{_<_}
 use native.Mathlib.Omega.{arith}
 use lib.Dec.{ltb}
 use lib.ListN.{length, getD}
@@ -14,22 +14,19 @@ use Rattle.prefix.specs.Routes.{Route, puts, isChange}
 use Rattle.prefix.proofs.Best.{isRoute?}
 use Rattle.prefix.proofs.Spans.{block-inside}
 use Rattle.cells.specs.Cells.{isPointer}
-use Rattle.cells.specs.Memory.{Lent, noZero, needsSegment}
+use Rattle.cells.specs.Memory.{Lent, lent, noZero, needsSegment}
 use Rattle.cells.proofs.FreeSegments.{noZero?}
 use Rattle.rules.specs.Words.{routeBy}
 use Rattle.rules.specs.Rules.{routes, isLive}
 use Rattle.refusals.specs.Codes.{tested, unlessRoom, code}
-use Rattle.refusals.specs.inner.Checks.{Told, none}
-use Rattle.refusals.proofs.Refusing.{refused-is, told-as, stays, goes-on, let-pass, full, stops-at-6, stops-at-7, has-room}
+use Rattle.refusals.specs.inner.Checks.{Told, never}
+use Rattle.refusals.proofs.Refusing.{refused-is, told-as, stays, goes-on, let-pass, full, by-room}
 use borrow.Author.Needs.{needs}
 use Rattle.refusals.proofs.codes.announce_checked.Statement.{statement}
 use Rattle.refusals.proofs.codes.announce_checked.Tie as tie
 
 abbrev lent-of : tie.Start → Lent
-lent-of s = record {
-  tables = record { first = s .args .first .now; long = s .args .long .now; owners = s .args .owners .now };
-  rules = s .args .rules .now;
-}
+lent-of s = lent (s .args .first) (s .args .long) (s .args .owners) (s .args .rules)
 
 abbrev route : tie.Start → Route
 route s = routeBy (s .args .prefix) (s .args .hop)
@@ -38,11 +35,11 @@ is-route-requires : tie.Need-is-route-requires
 is-route-requires c κs = search needs
 
 tests-requires : tie.Need-tests-requires
-tests-requires c κs = λ e. says (isRoute? (route (c .before .before .before .before .before))) (sym (c .is-route .ensures) ∙ e) .formed
+tests-requires c κs = λ e. says (isRoute? _) (sym (c .is-route .ensures) ∙ e) .formed
 
 -- what the tests answered
 told : (c : tie.After-tests) → let s = c .before .before .before .before .before .before in
-    Told (s .args .territory) (s .args .prefix) (λ m. tested (s .args .territory) (puts (route s)) m 0) none (lent-of s) (c .tests .result)
+    Told (s .args .territory) (s .args .prefix) (λ m. tested (s .args .territory) (puts (route s)) m 0) never (lent-of s) (c .tests .result)
 unfolding isChange
 told c = c .tests .ensures (puts (route (c .before .before .before .before .before .before))) (record { names = refl; numbers = c .before .is-route .ensures })
 
@@ -64,8 +61,8 @@ returns-2 : tie.Need-returns-2
 unfolding code
 returns-2 c =
     let s = c .before .before .before .before .before .before .before .before .before .before .before .before in
-    refused-is (goes-on (puts (route s)) (told (c .before .before .before .before .before .before)) (c .before .before .before .before .if1 .left) (stops-at-6 (s .args .territory) (s .args .prefix) (lent-of s) (sym (no-room (c .before .before)) ∙ c .before .if2 .taken)))
-    (omega (arith, c .refused .ensures)) (λ z. omega arith)
+    let six : 6 ≡ unlessRoom (s .args .territory) (s .args .prefix) (lent-of s) = by-room _ _ (lent-of s) (sym (no-room (c .before .before)) ∙ c .before .if2 .taken) refl refl in
+    refused-is (goes-on (puts (route s)) (told (c .before .before .before .before .before .before)) (c .before .before .before .before .if1 .left) six) (omega (arith, c .refused .ensures)) (λ z. omega arith)
 
 -- the block has a cell
 cell-lent : (c : tie.Else1) → c .before .before .tests .result .blocks .from < length (c .before .before .before .before .before .before .before .before .args .first .now)
@@ -94,12 +91,8 @@ returns-3 : tie.Need-returns-3
 unfolding code
 returns-3 c =
     let s = c .before .before .before .before .before .before .before .before .before .before .before .before .before .before .before in
-    let t = s .args .territory in
-    let p = s .args .prefix in
     let no = sym (needed (c .before)) ∙ not-true _ (c .if3 .taken) in
-    told-as (told (c .before .before .before .before .before .before .before .before .before))
-    (ap (tested t (puts (route s)) (lent-of s)) (has-room t p (lent-of s) (sym (no-room (c .before .before .before .before .before)) ∙ c .before .before .before .before .if2 .left) (ap (λ (b : Bool). b && noZero (s .args .owners .now)) no)))
-    (λ z. sym no)
+    told-as (told (c .before .before .before .before .before .before .before .before .before)) (ap (tested (s .args .territory) (puts (route s)) (lent-of s)) (by-room _ _ (lent-of s) (sym (no-room (c .before .before .before .before .before)) ∙ c .before .before .before .before .if2 .left) no refl)) (λ z. sym no)
 
 free-segment-requires : tie.Need-free-segment-requires
 free-segment-requires c κs = search needs
@@ -111,31 +104,23 @@ returns-4 : tie.Need-returns-4
 unfolding code
 returns-4 c =
     let s = c .before .before .before .before .before .before .before .before .before .before .before .before .before .before .before .before .before .before in
-    let t = s .args .territory in
-    let p = s .args .prefix in
-    let owners = s .args .owners .now in
-    refused-is
-    (goes-on (puts (route s)) (told (c .before .before .before .before .before .before .before .before .before .before .before .before)) (c .before .before .before .before .before .before .before .before .before .before .if1 .left)
-    (stops-at-7 t p (lent-of s) (sym (no-room (c .before .before .before .before .before .before .before .before)) ∙ c .before .before .before .before .before .before .before .if2 .left) (sym (needed (c .before .before .before .before)) ∙ not-false _ (c .before .before .before .if3 .left))
-    (passes (noZero? owners) (omega (arith, c .before .before .free-segment .ensures)))))
-    (omega (arith, c .refused2 .ensures)) (λ z. omega arith)
+    let seven : 7 ≡ unlessRoom (s .args .territory) (s .args .prefix) (lent-of s) = by-room _ _ (lent-of s) (sym (no-room (c .before .before .before .before .before .before .before .before)) ∙ c .before .before .before .before .before .before .before .if2 .left)
+    (sym (needed (c .before .before .before .before)) ∙ not-false _ (c .before .before .before .if3 .left)) (passes (noZero? (s .args .owners .now)) (omega (arith, c .before .before .free-segment .ensures))) in
+    refused-is (goes-on (puts (route s)) (told (c .before .before .before .before .before .before .before .before .before .before .before .before)) (c .before .before .before .before .before .before .before .before .before .before .if1 .left) seven) (omega (arith, c .refused2 .ensures)) (λ z. omega arith)
 
 returns-5 : tie.Need-returns-5
 unfolding code
 returns-5 c =
     let s = c .before .before .before .before .before .before .before .before .before .before .before .before .before .before .before .before .before in
-    let t = s .args .territory in
-    let p = s .args .prefix in
-    let owners = s .args .owners .now in
     let k = told (c .before .before .before .before .before .before .before .before .before .before .before) in
     let yes = sym (needed (c .before .before .before)) ∙ not-false _ (c .before .before .if3 .left) in
-    let free = stops (noZero? owners) (λ e. c .if4 .left (omega (arith, c .before .free-segment .ensures))) in
+    let free = stops (noZero? (s .args .owners .now)) (λ e. c .if4 .left (omega (arith, c .before .free-segment .ensures))) in
     record {
-      number = k .number ∙ ap (tested t (puts (route s)) (lent-of s)) (has-room t p (lent-of s) (sym (no-room (c .before .before .before .before .before .before .before)) ∙ c .before .before .before .before .before .before .if2 .left) (ap₂ _&&_ yes free));
+      number = k .number ∙ ap (tested (s .args .territory) (puts (route s)) (lent-of s)) (by-room _ _ (lent-of s) (sym (no-room (c .before .before .before .before .before .before .before)) ∙ c .before .before .before .before .before .before .if2 .left) yes free);
       listed = k .listed;
       place = k .place;
       blocks = k .blocks;
-      opens = λ z. sym yes;
+      opens = λ z. search (sym yes);
       segment = λ z e. c .before .free-segment .ensures;
     }
 

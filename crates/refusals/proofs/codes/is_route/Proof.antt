@@ -4,26 +4,24 @@ use native.Mathlib.Omega.{arith}
 use Rattle.ground.proofs.Tests.{iff?, stops, same-test}
 use Rattle.prefix.proofs.Prefixes.{wellFormed?}
 use Rattle.prefix.proofs.Best.{isRoute?}
-use Rattle.rules.specs.Words.{routeBy}
 use borrow.Author.Needs.{needs}
 use Rattle.refusals.proofs.codes.is_route.Statement.{statement}
 use Rattle.refusals.proofs.codes.is_route.Tie as tie
 
 returns : tie.Need-returns
-returns c = let s = c .before .args in sym (stops (isRoute? (routeBy (s .prefix) (s .hop))) (λ r. omega (arith, r .some-hop)))
+returns c = sym (stops (isRoute? _) (λ r. omega (arith, r .some-hop)))
 
 returns-2 : tie.Need-returns-2
-returns-2 c = let s = c .before .before .args in sym (stops (isRoute? (routeBy (s .prefix) (s .hop))) (λ r. omega (arith, r .hop-fits)))
+returns-2 c = sym (stops (isRoute? _) (λ r. omega (arith, r .hop-fits)))
 
 well-formed-requires : tie.Need-well-formed-requires
 well-formed-requires c κs = search needs
 
 returns-3 : tie.Need-returns-3
 returns-3 c =
-    let s = c .before .before .before .args in
     c .well-formed .ensures
-    ∙ same-test (wellFormed? (s .prefix))
-    (iff? (isRoute? (routeBy (s .prefix) (s .hop))) (λ r. r .formed)
+    ∙ same-test (wellFormed? _)
+    (iff? (isRoute? _) (λ r. r .formed)
     (λ w. record { formed = w; some-hop = omega arith; hop-fits = omega arith }))
 
 pub is-route-spec : {M : Type 1} → statement M

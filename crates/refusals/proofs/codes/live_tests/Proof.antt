@@ -4,19 +4,16 @@ use mathlib.Core.Bool.{true, false}
 use native.Mathlib.Omega.{arith}
 use borrow.Author.Tests.{not-true, not-false}
 use Rattle.prefix.specs.declared.Prefix.{Prefix}
-use Rattle.cells.specs.Memory.{Lent, needsSegment}
+use Rattle.cells.specs.Memory.{Lent, lent, needsSegment}
 use Rattle.rules.specs.Rules.{routes, isLive}
 use Rattle.refusals.specs.Codes.{tested, unlessLive}
-use Rattle.refusals.proofs.Refusing.{refused-is, told-as, stays, goes-on, let-pass, stops-at-5, is-live, live-needs-none}
+use Rattle.refusals.proofs.Refusing.{refused-is, told-as, stays, goes-on, let-pass, by-live, live-needs-none}
 use borrow.Author.Needs.{needs}
 use Rattle.refusals.proofs.codes.live_tests.Statement.{statement}
 use Rattle.refusals.proofs.codes.live_tests.Tie as tie
 
 abbrev lent-of : tie.Start → Lent
-lent-of s = record {
-  tables = record { first = s .args .first .now; long = s .args .long .now; owners = s .args .owners .now };
-  rules = s .args .rules .now;
-}
+lent-of s = lent (s .args .first) (s .args .long) (s .args .owners) (s .args .rules)
 
 tests-requires : tie.Need-tests-requires
 tests-requires c κs = search needs
@@ -32,8 +29,8 @@ returns-2 c = λ ch a.
     let s = c .before .before .before .before .before .before .before .before .before .before in
     let k = c .before .before .before .before .before .tests .ensures ch a in
     let zero = c .before .before .before .if1 .left in
-    refused-is (goes-on ch k zero (stops-at-5 (s .args .prefix) (lent-of s) (sym (k .place zero .live) ∙ not-true _ (c .before .if2 .taken))))
-    (omega (arith, c .refused .ensures)) (λ z. omega arith)
+    let five : 5 ≡ unlessLive (s .args .prefix) (lent-of s) = by-live _ (lent-of s) (sym (k .place zero .live) ∙ not-true _ (c .before .if2 .taken)) in
+    refused-is (goes-on ch k zero five) (omega (arith, c .refused .ensures)) (λ z. omega arith)
 
 returns-3 : tie.Need-returns-3
 returns-3 c = λ ch a.
@@ -46,7 +43,7 @@ returns-3 c = λ ch a.
     let lives : isLive p (routes (m .rules)) ≡ true = sym (k .place zero .live) ∙ not-false _ (c .if2 .left) in
     let none : needsSegment t p (m .tables) ≡ false =
     subst (λ (q : Prefix). isLive q (routes (m .rules)) ≡ true → needsSegment t q (m .tables) ≡ false) (a .names) (live-needs-none (let-pass ch k zero)) lives in
-    told-as k (ap (tested t ch m) (is-live p m lives)) (λ z. sym none)
+    told-as k (ap (tested t ch m) (by-live p m lives)) (λ z. sym none)
 
 pub live-tests-spec : {M : Type 1} → statement M
 live-tests-spec = tie.close (tie.spec tests-requires returns refused-requires returns-2 returns-3)

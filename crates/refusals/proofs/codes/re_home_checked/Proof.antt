@@ -13,9 +13,7 @@ is-route-requires : tie.Need-is-route-requires
 is-route-requires c κs = search needs
 
 live-tests-requires : tie.Need-live-tests-requires
-live-tests-requires c κs =
-    let s = c .before .before .before .before .before .args in
-    λ e. says (isRoute? (routeBy (s .prefix) (s .hop))) (sym (c .is-route .ensures) ∙ e) .formed
+live-tests-requires c κs = λ e. says (isRoute? _) (sym (c .is-route .ensures) ∙ e) .formed
 
 returns : tie.Need-returns
 unfolding code isChange

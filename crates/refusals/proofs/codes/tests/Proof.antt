@@ -1,22 +1,20 @@
 -- `codes::tests` meets its contract: each way out is the answer of the tests up to there. Assumes nothing.
-use mathlib.Core.Path.{refl}
+use mathlib.Core.Path.{_≡_, refl, sym, _∙_}
 use native.Mathlib.Omega.{arith}
 use borrow.Author.Tests.{not-true, not-false}
-use Rattle.ground.proofs.Tests.{if-so, if-not}
+use Rattle.ground.proofs.Tests.{if-so}
 use Rattle.prefix.specs.Prefixes.{Encloses}
 use Rattle.prefix.proofs.Prefixes.{encloses?}
-use Rattle.cells.specs.Memory.{Lent, IsLent}
+use Rattle.cells.specs.Memory.{Lent, lent, IsLent}
 use Rattle.cells.proofs.Lending.{isLent?}
-use Rattle.refusals.proofs.Refusing.{stops-at-1, stops-at-2, stops-at-3, goes-to-4, refused-is, told-as}
+use Rattle.refusals.specs.Codes.{tested}
+use Rattle.refusals.proofs.Refusing.{by-tests, refused-is, told-as}
 use borrow.Author.Needs.{needs}
 use Rattle.refusals.proofs.codes.tests.Statement.{statement}
 use Rattle.refusals.proofs.codes.tests.Tie as tie
 
 abbrev lent-of : tie.Start → Lent
-lent-of s = record {
-  tables = record { first = s .args .first .now; long = s .args .long .now; owners = s .args .owners .now };
-  rules = s .args .rules .now;
-}
+lent-of s = lent (s .args .first) (s .args .long) (s .args .owners) (s .args .rules)
 
 lent-requires : tie.Need-lent-requires
 lent-requires c κs = search needs
@@ -27,12 +25,12 @@ refused-requires c κs = search needs
 returns : tie.Need-returns
 returns c = λ ch a.
     let s = c .before .before .before .before .before .before .before in
-    refused-is (stops-at-1 (s .args .territory) (lent-of s) a (if-not (isLent? (lent-of s) (s .args .territory)) (c .before .before .lent .ensures) (c .before .if1 .taken)))
-    (omega (arith, c .refused .ensures)) (λ z. omega arith)
+    let one : 1 ≡ tested (s .args .territory) ch (lent-of s) 0 = by-tests _ (lent-of s) a (sym (c .before .before .lent .ensures) ∙ not-true _ (c .before .if1 .taken)) refl refl in
+    refused-is one (omega (arith, c .refused .ensures)) (λ z. omega arith)
 
 -- past the first test what is lent is right
-lent : (c : tie.Else1) → let s = c .before .before .before .before .before .before in IsLent (lent-of s) (s .args .territory)
-lent c = let s = c .before .before .before .before .before .before in if-so (isLent? (lent-of s) (s .args .territory)) (c .before .lent .ensures) (c .if1 .left)
+lent-right : (c : tie.Else1) → let s = c .before .before .before .before .before .before in IsLent (lent-of s) (s .args .territory)
+lent-right c = let s = c .before .before .before .before .before .before in if-so (isLent? _ _) (c .before .lent .ensures) (c .if1 .left)
 
 refused-requires-2 : tie.Need-refused-requires-2
 refused-requires-2 c κs = search needs
@@ -40,10 +38,11 @@ refused-requires-2 c κs = search needs
 returns-2 : tie.Need-returns-2
 returns-2 c = λ ch a.
     let s = c .before .before .before .before .before .before .before .before in
-    refused-is (stops-at-2 (s .args .territory) (lent-of s) a (lent (c .before .before)) (not-true _ (c .before .if2 .taken))) (omega (arith, c .refused2 .ensures)) (λ z. omega arith)
+    let two : 2 ≡ tested (s .args .territory) ch (lent-of s) 0 = by-tests _ (lent-of s) a (sym (c .before .before .before .lent .ensures) ∙ not-false _ (c .before .before .if1 .left)) (not-true _ (c .before .if2 .taken)) refl in
+    refused-is two (omega (arith, c .refused2 .ensures)) (λ z. omega arith)
 
 encloses-requires : tie.Need-encloses-requires
-encloses-requires c κs = lent (c .before) .sized .territory .formed .short
+encloses-requires c κs = lent-right (c .before) .sized .territory .formed .short
 
 refused-requires-3 : tie.Need-refused-requires-3
 refused-requires-3 c κs = search needs
@@ -51,22 +50,22 @@ refused-requires-3 c κs = search needs
 returns-3 : tie.Need-returns-3
 returns-3 c = λ ch a.
     let s = c .before .before .before .before .before .before .before .before .before .before in
-    refused-is
-    (stops-at-3 (s .args .territory) (lent-of s) a (lent (c .before .before .before .before)) (not-false _ (c .before .before .before .if2 .left))
-    (if-not (encloses? (s .args .territory) (s .args .prefix)) (c .before .before .encloses .ensures) (c .before .if3 .taken)))
-    (omega (arith, c .refused3 .ensures)) (λ z. omega arith)
+    let three : 3 ≡ tested (s .args .territory) ch (lent-of s) 0 = by-tests _ (lent-of s) a (sym (c .before .before .before .before .before .lent .ensures) ∙ not-false _ (c .before .before .before .before .if1 .left)) (not-false _ (c .before .before .before .if2 .left))
+    (sym (c .before .before .encloses .ensures) ∙ not-true _ (c .before .if3 .taken)) in
+    refused-is three (omega (arith, c .refused3 .ensures)) (λ z. omega arith)
 
 -- past the third the prefix is inside the territory
 inside : (c : tie.Else3) → let s = c .before .before .before .before .before .before .before .before .before .args in Encloses (s .territory) (s .prefix)
-inside c = let s = c .before .before .before .before .before .before .before .before .before .args in if-so (encloses? (s .territory) (s .prefix)) (c .before .encloses .ensures) (c .if3 .left)
+inside c = if-so (encloses? _ _) (c .before .encloses .ensures) (c .if3 .left)
 
-undamaged-requires : tie.Need-undamaged-requires
-undamaged-requires c κs = (lent (c .before .before .before), (c .before .before .before .before .before .before .before .before .before .pre (not-false _ (c .before .before .if2 .left)), inside c))
+damage-tests-requires : tie.Need-damage-tests-requires
+damage-tests-requires c κs = (lent-right (c .before .before .before), (c .before .before .before .before .before .before .before .before .before .pre (not-false _ (c .before .before .if2 .left)), inside c))
 
 returns-4 : tie.Need-returns-4
 returns-4 c = λ ch a.
-    let s = c .before .before .before .before .before .before .before .before .before .before in
-    told-as (c .undamaged .ensures) (goes-to-4 (s .args .territory) (lent-of s) a (lent (c .before .before .before .before)) (not-false _ (c .before .before .before .if2 .left)) (inside (c .before))) (λ z. refl)
+    told-as (c .damage-tests .ensures)
+    (by-tests _ (lent-of (c .before .before .before .before .before .before .before .before .before .before)) a (sym (c .before .before .before .before .before .lent .ensures) ∙ not-false _ (c .before .before .before .before .if1 .left)) (not-false _ (c .before .before .before .if2 .left)) (sym (c .before .before .encloses .ensures) ∙ not-false _ (c .before .if3 .left)))
+    (λ z. refl)
 
 pub tests-spec : {M : Type 1} → statement M
 tests-spec =
@@ -80,5 +79,5 @@ tests-spec =
     encloses-requires
     refused-requires-3
     returns-3
-    undamaged-requires
+    damage-tests-requires
     returns-4)

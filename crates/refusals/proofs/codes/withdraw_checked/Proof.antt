@@ -12,8 +12,7 @@ well-formed-requires : tie.Need-well-formed-requires
 well-formed-requires c κs = search needs
 
 live-tests-requires : tie.Need-live-tests-requires
-live-tests-requires c κs =
-    λ e. says (wellFormed? (c .before .before .before .before .before .args .prefix)) (sym (c .well-formed .ensures) ∙ e)
+live-tests-requires c κs = λ e. says (wellFormed? _) (sym (c .well-formed .ensures) ∙ e)
 
 returns : tie.Need-returns
 unfolding code isChange

@@ -1,23 +1,19 @@
 -- `damage::block_sound` meets its contract: the two cases of a block, each with its own test of whether it is open. Assumes nothing.
-use mathlib.Core.Path.{sym, ap, _∙_}
-use mathlib.Core.Bool.{true≢false}
+use mathlib.Core.Path.{_≡_, sym, ap, _∙_}
+use mathlib.Core.Bool.{false, true≢false}
 use Prim.Native.Nat.{_≤_, _<_}
 use native.Mathlib.Nat.{lt-of-not-le}
 use native.Mathlib.Omega.{arith}
 use lib.ListN.{getD}
 use borrow.Author.Tests.{not-true, not-false}
 use Rattle.ground.proofs.Tests.{leb?, iff?, stops, same-test, if-so, if-not}
-use Rattle.prefix.specs.Geometry.{width}
-use Rattle.cells.specs.Cells.{pointerBit, segmentOf}
-use Rattle.cells.specs.Memory.{Tables}
-use Rattle.refusals.specs.Damage.{segmentSound}
+use Rattle.cells.specs.Cells.{pointerBit}
+use Rattle.cells.specs.Memory.{Tables, tables}
+use Rattle.refusals.specs.Damage.{segmentSound, soundBy}
 use Rattle.refusals.proofs.Soundness.{isClean?, segmentSound?, soundBy?}
 use borrow.Author.Needs.{needs}
 use Rattle.refusals.proofs.damage.block_sound.Statement.{statement}
 use Rattle.refusals.proofs.damage.block_sound.Tie as tie
-
-abbrev tables-of : tie.Start → Tables
-tables-of s = record { first = s .args .first .now; long = s .args .long .now; owners = s .args .owners .now }
 
 mul-cell : tie.Need-mul-cell
 mul-cell c = search needs
@@ -30,32 +26,31 @@ is-pointer-requires c κs = search needs
 
 -- the two cases
 other : (c : tie.Then1) → let s = c .before .before .before .before .before .before .args in getD (s .first .now) (s .block) 0 < pointerBit
-other c = let s = c .before .before .before .before .before .before .args in lt-of-not-le (if-not (leb? pointerBit (getD (s .first .now) (s .block) 0)) (c .before .is-pointer .ensures) (c .if1 .taken))
+other c = lt-of-not-le (if-not (leb? _ _) (c .before .is-pointer .ensures) (c .if1 .taken))
 
 pointer : (c : tie.Else1) → let s = c .before .before .before .before .before .before .args in pointerBit ≤ getD (s .first .now) (s .block) 0
-pointer c = let s = c .before .before .before .before .before .before .args in if-so (leb? pointerBit (getD (s .first .now) (s .block) 0)) (c .before .is-pointer .ensures) (c .if1 .left)
+pointer c = if-so (leb? _ _) (c .before .is-pointer .ensures) (c .if1 .left)
 
 returns : tie.Need-returns
-returns c =
-    let s = c .before .before .before .before .before .before .before in
-    sym (stops (soundBy? (tables-of s) (s .args .block) (s .args .opened)) (λ b. true≢false (sym (c .if2 .taken) ∙ b .other (other (c .before)) .1)))
+returns c = sym (stops (soundBy? _ _ _) (λ b. true≢false (sym (c .if2 .taken) ∙ b .other (other (c .before)) .1)))
 
 is-clean-requires : tie.Need-is-clean-requires
 is-clean-requires c κs = search needs
 
 returns-2 : tie.Need-returns-2
 returns-2 c =
-    let s = c .before .before .before .before .before .before .before .before in
     let o = other (c .before .before) in
     c .is-clean .ensures
-    ∙ same-test (isClean? width (getD (s .args .first .now) (s .args .block) 0))
-    (iff? (soundBy? (tables-of s) (s .args .block) (s .args .opened)) (λ b. b .other o .0)
+    ∙ same-test (isClean? _ _)
+    (iff? (soundBy? _ _ _) (λ b. b .other o .0)
     (λ k. record { pointer = λ p. absurd (omega arith); other = λ l. (k, c .before .if2 .left) }))
 
 returns-3 : tie.Need-returns-3
 returns-3 c =
-    let s = c .before .before .before .before .before .before .before in
-    sym (stops (soundBy? (tables-of s) (s .args .block) (s .args .opened)) (λ b. true≢false (sym (b .pointer (pointer (c .before)) .1) ∙ not-true _ (c .if3 .taken))))
+    let s = c .before .before .before .before .before .before .before .args in
+    let damaged : soundBy (tables (s .first) (s .long) (s .owners)) (s .block) (s .opened) ≡ false =
+    stops (soundBy? _ _ _) (λ b. true≢false (sym (b .pointer (pointer (c .before)) .1) ∙ not-true _ (c .if3 .taken))) in
+    search (sym damaged)
 
 segment-requires : tie.Need-segment-requires
 segment-requires c κs = pointer (c .before)
@@ -66,12 +61,12 @@ segment-sound-requires c κs = search needs
 returns-4 : tie.Need-returns-4
 unfolding segmentSound
 returns-4 c =
-    let s = c .before .before .before .before .before .before .before .before .before in
+    let s = c .before .before .before .before .before .before .before .before .before .args in
     let p = pointer (c .before .before .before) in
-    c .segment-sound .ensures
-    ∙ ap (segmentSound (tables-of s) (s .args .block)) (c .before .segment .ensures)
-    ∙ same-test (segmentSound? (tables-of s) (s .args .block) (segmentOf (getD (s .args .first .now) (s .args .block) 0)))
-    (iff? (soundBy? (tables-of s) (s .args .block) (s .args .opened)) (λ b. b .pointer p .0)
+    let tables-of : Tables = tables (s .first) (s .long) (s .owners) in
+    c .segment-sound .ensures ∙ ap (segmentSound tables-of (s .block)) (c .before .segment .ensures)
+    ∙ same-test (segmentSound? tables-of _ _)
+    (iff? (soundBy? _ _ _) (λ b. b .pointer p .0)
     (λ k. record { pointer = λ q. (k, not-false _ (c .before .before .if3 .left)); other = λ l. absurd (omega arith) }))
 
 pub block-sound-spec : {M : Type 1} → statement M

@@ -39,10 +39,7 @@ loop-less : tie.Need-loop-less Inv-loop μ-loop
 loop-less c = search needs
 
 loop-again : tie.Need-loop-again Inv-loop μ-loop
-loop-again c =
-    let s = c .before .before .before .before .before .args in
-    let l = c .before .before .before .loop in
-    (search needs, ap₂ _&&_ (l .inv .1) (c .is-clean .ensures) ∙ sym (clean-more (s .longest) (s .cells .now) (s .from) (l .i)))
+loop-again c = (search needs, ap₂ _&&_ (c .before .before .before .loop .inv .1) (c .is-clean .ensures) ∙ sym (clean-more _ _ _ _))
 
 returns : tie.Need-returns Inv-loop μ-loop
 returns c =

@@ -1,18 +1,17 @@
 -- `damage::is_clean` meets its contract: past the test of an empty cell, a cell is clean exactly if it is direct. Assumes nothing.
-use mathlib.Core.Path.{_≡_, sym, ap, _∙_}
+use mathlib.Core.Path.{sym, ap, _∙_}
 use mathlib.Core.Logic.{inl}
-use mathlib.Core.Bool.{Bool, false, _||_}
-use lib.Dec.{eqb}
+use mathlib.Core.Bool.{Bool, _||_}
 use borrow.Author.Tests.{ne-eqb}
 use Rattle.ground.proofs.Tests.{passes}
-use Rattle.cells.specs.Cells.{empty, isDirect}
+use Rattle.cells.specs.Cells.{isDirect}
 use Rattle.refusals.proofs.Soundness.{isClean?}
 use borrow.Author.Needs.{needs}
 use Rattle.refusals.proofs.damage.is_clean.Statement.{statement}
 use Rattle.refusals.proofs.damage.is_clean.Tie as tie
 
 returns : tie.Need-returns
-returns c = let s = c .before .args in sym (passes (isClean? (s .longest) (s .cell)) (inl (c .if1 .taken)))
+returns c = sym (passes (isClean? _ _) (inl (c .if1 .taken)))
 
 is-direct-requires : tie.Need-is-direct-requires
 is-direct-requires c κs = search needs
@@ -20,8 +19,7 @@ is-direct-requires c κs = search needs
 returns-2 : tie.Need-returns-2
 returns-2 c =
     let s = c .before .before .args in
-    let some : eqb (s .cell) empty ≡ false = ne-eqb (s .cell) empty (c .before .if1 .left) in
-    c .is-direct .ensures ∙ sym (ap (λ (t : Bool). t || isDirect (s .longest) (s .cell)) some)
+    c .is-direct .ensures ∙ sym (ap (λ (t : Bool). t || isDirect (s .longest) (s .cell)) (ne-eqb _ _ (c .before .if1 .left)))
 
 pub is-clean-spec : {M : Type 1} → statement M
 is-clean-spec = tie.close (tie.spec returns is-direct-requires returns-2)

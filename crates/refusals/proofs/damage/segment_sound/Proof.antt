@@ -1,23 +1,14 @@
 -- `damage::segment_sound` meets its contract: each test that fails is one that a sound segment passes. Assumes nothing.
 use mathlib.Core.Path.{sym, _∙_}
-use mathlib.Core.List.{[]}
-use Prim.Native.Nat.{_*_}
 use native.Mathlib.Omega.{arith}
 use Rattle.ground.proofs.Tests.{iff?, stops, same-test}
-use Rattle.prefix.specs.Geometry.{blockSize}
-use Rattle.cells.specs.Memory.{Tables}
 use Rattle.refusals.proofs.Soundness.{cleanRun?, segmentSound?}
 use borrow.Author.Needs.{needs}
 use Rattle.refusals.proofs.damage.segment_sound.Statement.{statement}
 use Rattle.refusals.proofs.damage.segment_sound.Tie as tie
 
-abbrev tables-of : tie.Start → Tables
-tables-of s = record { first = []; long = s .args .long .now; owners = s .args .owners .now }
-
 returns : tie.Need-returns
-returns c =
-    let s = c .before .before .before in
-    sym (stops (segmentSound? (tables-of s) (s .args .block) (s .args .segment)) (λ h. omega (arith, h .lent)))
+returns c = sym (stops (segmentSound? _ _ _) (λ h. omega (arith, h .lent)))
 
 mul-if2 : tie.Need-mul-if2
 mul-if2 c = search needs
@@ -32,9 +23,7 @@ add-if2 : tie.Need-add-if2
 add-if2 c = search needs
 
 returns-2 : tie.Need-returns-2
-returns-2 c =
-    let s = c .before .before .before .before .before in
-    sym (stops (segmentSound? (tables-of s) (s .args .block) (s .args .segment)) (λ h. c .if2 .taken (omega (arith, h .owned))))
+returns-2 c = sym (stops (segmentSound? _ _ _) (λ h. c .if2 .taken (omega (arith, h .owned))))
 
 mul-clean-run : tie.Need-mul-clean-run
 mul-clean-run c = search needs
@@ -44,10 +33,9 @@ clean-run-requires c κs = search needs
 
 returns-3 : tie.Need-returns-3
 returns-3 c =
-    let s = c .before .before .before .before .before .before in
     c .clean-run .ensures
-    ∙ same-test (cleanRun? 32 (s .args .long .now) (s .args .segment * blockSize) _)
-    (iff? (segmentSound? (tables-of s) (s .args .block) (s .args .segment)) (λ h i l. h .clean i (omega arith))
+    ∙ same-test (cleanRun? _ _ _ _)
+    (iff? (segmentSound? _ _ _) (λ h i l. h .clean i (omega arith))
     (λ k. record { lent = omega arith; owned = omega arith; clean = λ i l. k i (omega arith) }))
 
 pub segment-sound-spec : {M : Type 1} → statement M

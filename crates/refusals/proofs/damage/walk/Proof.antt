@@ -5,15 +5,12 @@ use Prim.Native.Nat.{ℕ, _+_, _-_, _*_, _≤_, _<_}
 use native.Mathlib.Omega.{arith}
 use lib.ListN.{length}
 use borrow.Author.Needs.{needs}
-use Rattle.ground.proofs.Tests.{Decides, passes, stops, if-so, if-not}
+use Rattle.ground.proofs.Tests.{passes, stops, if-so, if-not}
 use Rattle.prefix.specs.Geometry.{width, blockSize}
 use Rattle.prefix.proofs.Spans.{aligned}
-use Rattle.cells.specs.Memory.{Tables}
 use Rattle.cells.proofs.Lending.{few-firsts}
-use Rattle.rules.specs.Rules.{routes}
-use Rattle.refusals.specs.inner.Walk.{soundRun}
 use Rattle.rules.specs.inner.Blocks.{Reached}
-use Rattle.refusals.proofs.Soundness.{CleanRun, cleanRun?, soundBy?, SoundTo, soundRun?}
+use Rattle.refusals.proofs.Soundness.{CleanRun, cleanRun?, soundBy?, soundRun?}
 use Rattle.refusals.proofs.Turns.{Walked, start-within, clean-run, sound-run, sound-here, walked-on}
 use Rattle.refusals.proofs.damage.walk.Statement.{statement}
 use Rattle.refusals.proofs.damage.walk.Tie as tie
@@ -24,15 +21,6 @@ Inv-loop first long owners rules live territory at end block₀ here₀ block he
 
 abbrev μ-loop : tie.MeasureT-loop
 μ-loop first long owners rules live territory at end block₀ here₀ block here = end - block
-
-abbrev tables-of : tie.Start Inv-loop μ-loop → Tables
-tables-of s = record { first = s .args .first .now; long = s .args .long .now; owners = s .args .owners .now }
-
--- what the walk is to tell
-abbrev all? : (s : tie.Start Inv-loop μ-loop) → let a = s .args in
-    Decides (SoundTo (a .territory) (routes (a .rules .now)) (tables-of s) (a .blocks .from) (a .blocks .from + a .blocks .count))
-    (soundRun (a .territory) (a .blocks) (routes (a .rules .now)) (tables-of s))
-all? s = soundRun? (s .args .territory) (s .args .blocks) (routes (s .args .rules .now)) (tables-of s)
 
 add-end : tie.Need-add-end Inv-loop μ-loop
 add-end c = omega (arith, c .before .before .before .before .before .pre .lent .all)
@@ -64,13 +52,13 @@ returns : tie.Need-returns Inv-loop μ-loop
 returns c =
     let s = c .before .before .before .before .before .before .before .before .before .before .before in
     let l = c .before .before .before .before .before .loop in
-    sym (stops (all? s) (λ all.
-    if-not (cleanRun? width (s .args .first .now) (l .block) (c .before .before .stretch .result)) (c .before .clean-run .ensures) (c .if1 .taken)
+    sym (stops (soundRun? _ _ _ _) (λ all.
+    if-not (cleanRun? _ _ _ _) (c .before .clean-run .ensures) (c .if1 .taken)
     (clean-run (s .pre .sized) (s .pre .listed) (l .inv .0) (c .before .before .before .block-start .ensures) (c .before .before .stretch .ensures) (λ j m k. all j (omega arith) (omega arith)))))
 
 -- past the first test, the cells of the stretch are clean
 clean : (c : tie.Else1 Inv-loop μ-loop) → CleanRun width (c .before .before .before .before .before .before .before .before .before .before .before .args .first .now) (c .before .before .before .before .before .loop .block) (c .before .before .stretch .result)
-clean c = if-so (cleanRun? width (c .before .before .before .before .before .before .before .before .before .before .before .args .first .now) (c .before .before .before .before .before .loop .block) (c .before .before .stretch .result)) (c .before .clean-run .ensures) (c .if1 .left)
+clean c = if-so (cleanRun? _ _ _ _) (c .before .clean-run .ensures) (c .if1 .left)
 
 add-stop : tie.Need-add-stop Inv-loop μ-loop
 add-stop c = search needs
@@ -78,7 +66,7 @@ add-stop c = search needs
 returns-2 : tie.Need-returns-2 Inv-loop μ-loop
 returns-2 c =
     let s = c .before .before .before .before .before .before .before .before .before .before .before .before in
-    sym (passes (all? s) (λ k m j.
+    sym (passes (soundRun? _ _ _ _) (λ k m j.
     sound-run (s .pre .sized) (s .pre .listed) (c .before .before .before .before .before .before .loop .inv .0) (c .before .before .before .before .block-start .ensures) (c .before .before .before .stretch .ensures) (clean (c .before)) k m (omega arith)))
 
 -- past the second, the block after it has a cell
@@ -112,8 +100,8 @@ returns-3 c =
     let s = c .before .before .before .before .before .before .before .before .before .before .before .before .before .before .before .before in
     let l = c .before .before .before .before .before .before .before .before .before .before .loop in
     let stop : ℕ = l .block + c .before .before .before .before .before .before .before .stretch .result in
-    sym (stops (all? s) (λ all.
-    if-not (soundBy? (tables-of s) stop (c .before .before .pass .result .opened)) (c .before .block-sound .ensures) (c .if3 .taken)
+    sym (stops (soundRun? _ _ _ _) (λ all.
+    if-not (soundBy? _ _ _) (c .before .block-sound .ensures) (c .if3 .taken)
     (sound-here (s .pre .sized) (s .pre .listed) (l .inv .0) (c .before .before .before .before .before .before .before .before .block-start .ensures) (c .before .before .before .before .before .before .before .stretch .ensures) (c .before .before .before .block-start2 .ensures) (c .before .before .pass .ensures)
     (all stop (omega (arith, l .inv .0 .forward)) (omega (arith, c .before .before .before .before .before .before .before .stretch .ensures .within))))))
 
@@ -129,12 +117,12 @@ loop-again c =
     let l = c .before .before .before .before .before .before .before .before .before .before .loop in (
       walked-on (s .pre .sized) (s .pre .listed) (l .inv .0) (c .before .before .before .before .before .before .before .before .block-start .ensures) (c .before .before .before .before .before .before .before .stretch .ensures) (c .before .before .before .block-start2 .ensures) (c .before .before .pass .ensures)
           (omega arith) (clean (c .before .before .before .before .before))
-          (if-so (soundBy? (tables-of s) (l .block + c .before .before .before .before .before .before .before .stretch .result) (c .before .before .pass .result .opened)) (c .before .block-sound .ensures) (c .if3 .left)),
+          (if-so (soundBy? _ _ _) (c .before .block-sound .ensures) (c .if3 .left)),
       search needs,
     )
 
 returns-4 : tie.Need-returns-4 Inv-loop μ-loop
-returns-4 c = sym (passes (all? (c .before .before .before .before .before .before .before)) (λ k m j. c .before .loop .inv .0 .sound k m (omega arith)))
+returns-4 c = sym (passes (soundRun? _ _ _ _) (λ k m j. c .before .loop .inv .0 .sound k m (omega arith)))
 
 pub walk-spec : {M : Type 1} → statement M
 walk-spec =

@@ -1,29 +1,27 @@
--- `codes::undamaged` meets its contract: each way out is the answer of the tests up to there. Assumes nothing.
-use mathlib.Core.Path.{refl, sym, ap, subst, _∙_}
+-- `codes::damage_tests` meets its contract: each way out is the answer of the tests up to there. Assumes nothing.
+use mathlib.Core.Path.{_≡_, refl, sym, ap, subst, _∙_}
 use mathlib.Core.Bool.{false≢true}
 use native.Mathlib.Omega.{arith}
 use borrow.Author.Tests.{not-false}
-use Rattle.ground.proofs.Tests.{if-so, if-not}
+use Rattle.ground.proofs.Tests.{passes, stops, if-so, if-not}
 use Rattle.prefix.specs.declared.geometry.Blocks.{Blocks}
 use Rattle.prefix.specs.Geometry.{touched}
 use Rattle.prefix.proofs.Spans.{past-base}
-use Rattle.cells.specs.Memory.{Lent}
+use Rattle.cells.specs.Memory.{Lent, lent}
 use Rattle.rules.specs.Rules.{routes, Formed}
 use Rattle.rules.specs.inner.Places.{Listed}
 use Rattle.rules.proofs.FormTests.{formed?, formed-listed}
+use Rattle.refusals.specs.inner.Checks.{unlessDamaged}
 use Rattle.refusals.specs.inner.Walk.{soundRun, BlocksLent}
-use Rattle.refusals.proofs.Soundness.{soundRun?}
+use Rattle.refusals.proofs.Soundness.{soundRun?, undamaged?}
 use Rattle.refusals.proofs.Turns.{touched-lent}
-use Rattle.refusals.proofs.Refusing.{stops-at-4, no-damage, refused-is}
+use Rattle.refusals.proofs.Refusing.{by-damage, refused-is}
 use borrow.Author.Needs.{needs}
-use Rattle.refusals.proofs.codes.undamaged.Statement.{statement}
-use Rattle.refusals.proofs.codes.undamaged.Tie as tie
+use Rattle.refusals.proofs.codes.damage_tests.Statement.{statement}
+use Rattle.refusals.proofs.codes.damage_tests.Tie as tie
 
 abbrev lent-of : tie.Start → Lent
-lent-of s = record {
-  tables = record { first = s .args .first .now; long = s .args .long .now; owners = s .args .owners .now };
-  rules = s .args .rules .now;
-}
+lent-of s = lent (s .args .first) (s .args .long) (s .args .owners) (s .args .rules)
 
 form-of-requires : tie.Need-form-of-requires
 form-of-requires c κs = search needs
@@ -34,14 +32,13 @@ refused-requires c κs = search needs
 returns : tie.Need-returns
 returns c =
     let s = c .before .before .before .before .before .before .before .before in
-    refused-is
-    (stops-at-4 (s .args .territory) (s .args .prefix) (lent-of s) (λ u.
-    if-not (formed? (s .args .territory) (s .args .rules .now)) (c .before .before .before .form-of .ensures .test) (c .before .if1 .taken) (u .rules)))
-    (omega (arith, c .refused .ensures)) (λ z. omega arith)
+    let four : 4 ≡ unlessDamaged (s .args .territory) (s .args .prefix) (lent-of s) = by-damage _ _ (lent-of s) (stops (undamaged? _ _ (lent-of s)) (λ u.
+    if-not (formed? _ _) (c .before .before .before .form-of .ensures .test) (c .before .if1 .taken) (u .rules))) in
+    refused-is four (omega (arith, c .refused .ensures)) (λ z. omega arith)
 
 -- past the first test the rule words have their form
 formed : (c : tie.Else1) → let s = c .before .before .before .before .before .before .before .args in Formed (s .territory) (s .rules .now)
-formed c = let s = c .before .before .before .before .before .before .before .args in if-so (formed? (s .territory) (s .rules .now)) (c .before .before .form-of .ensures .test) (c .if1 .left)
+formed c = if-so (formed? _ _) (c .before .before .form-of .ensures .test) (c .if1 .left)
 
 listed : (c : tie.Else1) → Listed (c .before .before .before .before .before .before .before .args .rules .now) (c .before .before .form-of .result .live)
 listed c = subst (Listed (c .before .before .before .before .before .before .before .args .rules .now)) (sym (c .before .before .form-of .ensures .count (not-false _ (c .if1 .left)))) (formed-listed (formed c))
@@ -58,16 +55,17 @@ blocks-sound-requires c κs =
 refused-requires-2 : tie.Need-refused-requires-2
 refused-requires-2 c κs = search needs
 
+-- the second test
+sound : (c : tie.After-blocks-sound) → let s = c .before .before .before .before .before .before .before .before .before in let t = s .args .territory in
+    c .blocks-sound .result ≡ soundRun t (touched t (s .args .prefix)) (routes (s .args .rules .now)) (lent-of s .tables)
+sound c = let s = c .before .before .before .before .before .before .before .before .before in c .blocks-sound .ensures ∙ ap (λ (b : Blocks). soundRun (s .args .territory) b (routes (s .args .rules .now)) (lent-of s .tables)) (c .before .touched .ensures)
+
 returns-2 : tie.Need-returns-2
 returns-2 c =
     let s = c .before .before .before .before .before .before .before .before .before .before .before in
-    let t = s .args .territory in
-    let rs = routes (s .args .rules .now) in
-    refused-is
-    (stops-at-4 t (s .args .prefix) (lent-of s) (λ u.
-    if-not (soundRun? t (touched t (s .args .prefix)) rs (lent-of s .tables))
-    (c .before .before .blocks-sound .ensures ∙ ap (λ (b : Blocks). soundRun t b rs (lent-of s .tables)) (c .before .before .before .touched .ensures)) (c .before .if2 .taken) (u .blocks)))
-    (omega (arith, c .refused2 .ensures)) (λ z. omega arith)
+    let four : 4 ≡ unlessDamaged (s .args .territory) (s .args .prefix) (lent-of s) = by-damage _ _ (lent-of s) (stops (undamaged? _ _ (lent-of s)) (λ u.
+    if-not (soundRun? _ _ _ _) (sound (c .before .before)) (c .before .if2 .taken) (u .blocks))) in
+    refused-is four (omega (arith, c .refused2 .ensures)) (λ z. omega arith)
 
 find-requires : tie.Need-find-requires
 find-requires c κs = (listed (c .before .before .before), c .before .before .before .before .before .before .before .before .before .before .pre .1 .0)
@@ -75,15 +73,10 @@ find-requires c κs = (listed (c .before .before .before), c .before .before .be
 returns-3 : tie.Need-returns-3
 returns-3 c =
     let s = c .before .before .before .before .before .before .before .before .before .before .before in
-    let t = s .args .territory in
-    let rs = routes (s .args .rules .now) in
-    let answer = no-damage t (s .args .prefix) (lent-of s) (record {
-      rules = formed (c .before .before .before .before);
-      blocks = if-so (soundRun? t (touched t (s .args .prefix)) rs (lent-of s .tables))
-          (c .before .before .blocks-sound .ensures ∙ ap (λ (b : Blocks). soundRun t b rs (lent-of s .tables)) (c .before .before .before .touched .ensures)) (c .before .if2 .left);
-    }) in
+    let none : 0 ≡ unlessDamaged (s .args .territory) (s .args .prefix) (lent-of s) = by-damage _ _ (lent-of s) (passes (undamaged? _ _ (lent-of s))
+    (record { rules = formed (c .before .before .before .before); blocks = if-so (soundRun? _ _ _ _) (sound (c .before .before)) (c .before .if2 .left) })) in
     record {
-      number = omega (arith, answer);
+      number = omega (arith, none);
       listed = λ z. listed (c .before .before .before .before);
       place = λ z. c .find .ensures;
       blocks = λ z. c .before .before .before .touched .ensures;
@@ -91,8 +84,8 @@ returns-3 c =
       segment = λ z e. absurd (false≢true e);
     }
 
-pub undamaged-spec : {M : Type 1} → statement M
-undamaged-spec =
+pub damage-tests-spec : {M : Type 1} → statement M
+damage-tests-spec =
     tie.close
     (tie.spec
     form-of-requires
