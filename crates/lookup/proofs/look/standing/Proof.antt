@@ -6,7 +6,7 @@ use Rattle.ground.proofs.Tests.{cond-on, cond-off}
 use Rattle.prefix.specs.Prefixes.{span}
 use Rattle.lookup.specs.Lookup.{standingOf}
 use Rattle.cells.proofs.Lending.{LentToRead, lentToRead?}
-use Rattle.prefix.proofs.Spans.{cleared?}
+use Rattle.prefix.proofs.Prefixes.{cleared?}
 use borrow.Author.Needs.{needs}
 use Rattle.lookup.proofs.look.standing.Statement.{statement}
 use Rattle.lookup.proofs.look.standing.Tie as tie
