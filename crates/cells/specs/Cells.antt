@@ -2,7 +2,7 @@
 use Prim.Native.Nat.{ℕ, _+_, _-_, _*_, _/_, _%_, _^_}
 use mathlib.Core.Bool.{Bool, _&&_}
 use lib.Dec.{leb}
-use Rattle.prefix.specs.Routes.{Match, no-route, via}
+use Rattle.prefix.specs.Routes.{lastHop, Match, no-route, via}
 
 -- "no route"
 abbrev pub empty : ℕ
@@ -21,9 +21,9 @@ hopOf cell = cell / radix
 abbrev pub lengthOf : ℕ → ℕ
 lengthOf cell = cell % radix
 
--- hop 1 to 32,767, and a length of at most `longest`: 24 in the first table, 32 in the long table
+-- a hop from 1 to the last, and a length of at most `longest`: 24 in the first table, 32 in the long table
 unfoldable pub isDirect : ℕ → ℕ → Bool
-isDirect longest cell = leb 1 (hopOf cell) && leb (hopOf cell) 32767 && leb (lengthOf cell) longest
+isDirect longest cell = leb 1 (hopOf cell) && leb (hopOf cell) lastHop && leb (lengthOf cell) longest
 
 -- a pointer is 2 ^ 31 + a segment's number, any word from 2 ^ 31 up
 abbrev pub pointerBit : ℕ

@@ -1,7 +1,9 @@
 // The cell kind: its fixed numbers, named once here, and what a word of the tables holds.
 ghost use mathlib.Core.Path.{_≡_};
 ghost use Prim.Native.Nat.{_<_, _≤_};
+ghost use Rattle.prefix.specs.Routes.{lastHop};
 ghost use Rattle.cells.specs.Cells.{pack, hopOf, lengthOf, isDirect, pointerBit, pointTo, isPointer, segmentOf};
+use prefix::LAST_HOP;
 
 // The kind of a table's words: its numbers and functions, on words that are plain u32.
 pub struct Cell {}
@@ -13,12 +15,10 @@ impl Cell {
     pub const RADIX: u32 = 64;
     // A pointer is POINTER + a segment's number: any word from here up, in the first table only.
     pub const POINTER: u32 = 0x8000_0000;
-    // A hop is at most this, and at least 1.
-    pub const LAST_HOP: u32 = 32767;
 
     // The direct cell of a hop and a length.
     pub fn pack(hop: u32, length: u32) -> u32
-        requires { ⌜ (hop ≤ 32767) × (length ≤ 32) ⌝ }
+        requires { ⌜ (hop ≤ lastHop) × (length ≤ 32) ⌝ }
         ensures { λ r. ⌜ r ≡ pack hop length ⌝ }
     {
         hop * Cell::RADIX + length
@@ -44,7 +44,7 @@ impl Cell {
         if hop < 1 {
             return false;
         }
-        if Cell::LAST_HOP < hop {
+        if LAST_HOP < hop {
             return false;
         }
         Cell::length(cell) <= longest

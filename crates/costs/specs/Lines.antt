@@ -11,6 +11,7 @@ use lib.Ieee.Exact.{HasValue}
 use lib.Ieee.Positive.{positive}
 use lib.Ieee.Scale.{finite}
 use Rattle.octets.specs.Words.{wordCount, most}
+use Rattle.prefix.specs.Routes.{lastHop}
 use Rattle.costs.specs.declared.line.Line.{Line}
 use Rattle.costs.specs.declared.line.Line.the-variants.{Rate, NoTraffic, Refused}
 use Rattle.costs.specs.declared.line.Values.{Values}
@@ -26,7 +27,7 @@ wordsCode octets cents = cond (leb octets most) (cond (leb cents most) 0 31) 30
 unfoldable pub lineCode : List ℕ → List ℕ → ℕ → ℕ
 lineCode octets cents hop =
     cond (eqb (length octets) wordCount && eqb (length cents) wordCount)
-    (cond (leb 1 hop && leb hop 32767) (wordsCode (getD octets hop 0) (getD cents hop 0)) 2)
+    (cond (leb 1 hop && leb hop lastHop) (wordsCode (getD octets hop 0) (getD cents hop 0)) 2)
     1
 
 -- the line of two words: without octets there is no traffic, whatever it costs

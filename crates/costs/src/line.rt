@@ -4,6 +4,7 @@ ghost use Prim.Native.Nat.{_≤_};
 ghost use Rattle.octets.specs.Words.{most};
 ghost use Rattle.costs.specs.Lines.{rateOf, wordsLine, lineOf, valuesOf};
 use octets::words::Words;
+use prefix::LAST_HOP;
 
 pub enum Line {
     // Cents for an octet.
@@ -57,7 +58,7 @@ pub fn cost_line(octets: &[u64], cents: &[u64], hop: u32) -> Line
     if hop < 1 {
         return Line::Refused(2);
     }
-    if 32767 < hop {
+    if LAST_HOP < hop {
         return Line::Refused(2);
     }
     line_of(octets[hop as usize], cents[hop as usize])

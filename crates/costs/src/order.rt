@@ -4,7 +4,7 @@ ghost use Prim.Native.Nat.{_<_, _≤_};
 ghost use lib.Dec.{ltb};
 ghost use lib.ListN.{getD};
 ghost use lib.Ieee.{lt};
-ghost use Rattle.octets.specs.Words.{most};
+ghost use Rattle.octets.specs.Words.{most, wordCount};
 ghost use Rattle.costs.specs.Ranks.{Sound, classOf, tieBroken, ahead, before};
 use crate::line::rate;
 
@@ -77,7 +77,7 @@ pub fn ranks_before_words(
     cents_b: u64,
 ) -> bool
     requires { ⌜ Sound (now octets) (now cents) ⌝ }
-    requires { ⌜ ((0 < a) × (a < 32768)) × ((0 < b) × (b < 32768)) ⌝ }
+    requires { ⌜ ((0 < a) × (a < wordCount)) × ((0 < b) × (b < wordCount)) ⌝ }
     requires { ⌜ («octets_b» ≡ getD (now octets) b 0) × («cents_b» ≡ getD (now cents) b 0) ⌝ }
     ensures { λ r. ⌜ r ≡ before (now (octets .entry)) (now (cents .entry)) a b ⌝ }
 {
@@ -88,7 +88,7 @@ pub fn ranks_before_words(
 // Whether hop a ranks before hop b.
 pub fn ranks_before(octets: &[u64], cents: &[u64], a: u32, b: u32) -> bool
     requires { ⌜ Sound (now octets) (now cents) ⌝ }
-    requires { ⌜ ((0 < a) × (a < 32768)) × ((0 < b) × (b < 32768)) ⌝ }
+    requires { ⌜ ((0 < a) × (a < wordCount)) × ((0 < b) × (b < wordCount)) ⌝ }
     ensures { λ r. ⌜ r ≡ before (now (octets .entry)) (now (cents .entry)) a b ⌝ }
 {
     let j = b as usize;

@@ -30,7 +30,7 @@ pub fn cost_sheet(octets: &[u64], cents: &[u64], hops: &mut [u32]) -> u32
     if cents.len() != Words::COUNT {
         return 1;
     }
-    if hops.len() != 32767 {
+    if hops.len() != Words::HOPS {
         return 1;
     }
     if !within(octets, 0) {
@@ -42,7 +42,7 @@ pub fn cost_sheet(octets: &[u64], cents: &[u64], hops: &mut [u32]) -> u32
     }
     heap::number(hops);
     // Quick sort is the faster. Where it would go too deep, heap sort does it all, so that no words make the call slow.
-    let sorted = quick::sort(octets, cents, hops, 0, 32767, 48);
+    let sorted = quick::sort(octets, cents, hops, 0, Words::HOPS, 48);
     if sorted {
         return 0;
     }

@@ -2,6 +2,7 @@
 ghost use mathlib.Core.Path.{_≡_};
 ghost use Prim.Native.Nat.{ℕ, _%_, _<_, _≤_};
 ghost use lib.ListN.{length, getD};
+ghost use Rattle.prefix.specs.Routes.{lastHop};
 ghost use Rattle.octets.specs.Words.{wordCount};
 ghost use Rattle.octets.specs.Booking.{refusalOf, enter, clearOctets, book};
 ghost use Rattle.octets.specs.Many.{enterEach, bookAll};
@@ -38,7 +39,7 @@ fn refusal(code: u32) -> u32
 
 // Books an amount by an answer of look up. The hop of "no route" is 0, and so is its word.
 fn enter(octets: &mut [u64], code: u32, hop: u32, amount: u64) -> u32
-    requires { ⌜ (length (now octets) ≡ wordCount) × (hop ≤ 32767) ⌝ }
+    requires { ⌜ (length (now octets) ≡ wordCount) × (hop ≤ lastHop) ⌝ }
     ensures { λ r. ⌜ record { code = r; words = now (octets .exit) } ≡ enter (record { code = code; hop = hop }) amount (now (octets .entry)) ⌝ }
 {
     let refused = refusal(code);
@@ -78,7 +79,7 @@ pub fn book(
 // Books by look up's answers, which the room holds as numbers, and leaves there the number of each record.
 fn enter_all(octets: &mut [u64], amounts: &[u64], codes: &mut [u32])
     requires { ⌜ (length (now octets) ≡ wordCount) × (length (now amounts) ≡ length (now codes)) ⌝ }
-    requires { ⌜ ((i : ℕ) → i < length (now codes) → unpackedOf (getD (now codes) i 0) .hop ≤ 32767) ⌝ }
+    requires { ⌜ ((i : ℕ) → i < length (now codes) → unpackedOf (getD (now codes) i 0) .hop ≤ lastHop) ⌝ }
     ensures { λ _. ⌜ record { codes = now (codes .exit); words = now (octets .exit) } ≡ enterEach (now (codes .entry)) (now (amounts .entry)) (now (octets .entry)) ⌝ }
 {
     let count = codes.len();

@@ -34,18 +34,21 @@ before? p q =
     from (lower h) = inl h
     from (shorter e h) = inr (e, h)
 
--- ---- a strict order
+-- ---- a strict order, in which any two prefixes are placed
 
+-- What comes before comes before all that comes after.
 pub before-trans : {p q r : Prefix} → Before p q → Before q r → Before p r
 before-trans (lower h) (lower k) = lower (omega arith)
 before-trans (lower h) (shorter e k) = lower (omega arith)
 before-trans (shorter d h) (lower k) = lower (omega arith)
 before-trans (shorter d h) (shorter e k) = shorter (omega arith) (omega arith)
 
+-- No prefix comes before itself.
 pub before-other : {p q : Prefix} → Before p q → ¬ (p ≡ q)
 before-other (lower h) e = let a = ap (λ (x : Prefix). x .address) e in omega arith
 before-other (shorter d h) e = let l = ap (λ (x : Prefix). x .length) e in omega arith
 
+-- Of two prefixes one comes before the other, or they are one.
 pub by-order : {C : Type 0} (p q : Prefix) → (Before p q → C) → (p ≡ q → C) → (Before q p → C) → C
 by-order p q less same more =
     by-cmp (p .address) (q .address) (λ h. less (lower h))

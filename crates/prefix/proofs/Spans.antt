@@ -10,7 +10,7 @@ use Rattle.ground.proofs.Cases.{by-lt}
 use Rattle.ground.proofs.Tests.{Decides, leb?, and?, iff?}
 use Rattle.prefix.specs.declared.Prefix.{Prefix}
 use Rattle.prefix.specs.Prefixes.{span, top, WellFormed, Contains, Encloses}
-use Rattle.prefix.specs.Geometry.{width, blockSize, isTerritory, Territory, runs, blocks, blockOf, blockStart, touched}
+use Rattle.prefix.specs.Geometry.{width, blockSize, isTerritory, Territory, runs, blocks, blockOf, blockStart}
 use Rattle.prefix.proofs.Prefixes.{wellFormed?, in-range, by-range, ends-inside}
 use Rattle.prefix.proofs.Blocks.{Opens}
 

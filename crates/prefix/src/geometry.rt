@@ -13,6 +13,8 @@ impl Block {
     pub const WIDTH: u32 = 24;
     // So many addresses are in a block.
     pub const SIZE: u32 = 256;
+    // The same among addresses that are counted in 64 bits.
+    pub const SPAN: u64 = Block::SIZE as u64;
     // So many cells are in a segment, one for each address of a block.
     pub const CELLS: usize = 256;
 }
@@ -28,7 +30,7 @@ pub fn blocks_of(length: u32) -> usize
     requires { ⌜ length ≤ width ⌝ }
     ensures { λ r. ⌜ r ≡ 2 ^ (width - length) ⌝ }
 {
-    (span_of(length) / Block::SIZE as u64) as usize
+    (span_of(length) / Block::SPAN) as usize
 }
 
 // The number of the block that holds the address, within the territory.

@@ -13,13 +13,13 @@ use Rattle.prefix.specs.Prefixes.{WellFormed, Before}
 use Rattle.prefix.specs.Routes.{Route, with-route, without}
 use Rattle.rules.specs.Words.{prefixOf, routeOf, routeBy, wordOf, keyOf}
 use Rattle.rules.specs.Rules.{routes, wordsOf}
-use Rattle.rules.specs.inner.Places.{Listed, keyAt, PlaceIs, insertedAt, removedAt}
+use Rattle.rules.specs.inner.Places.{Listed, prefixAt, keyAt, PlaceIs, insertedAt, removedAt}
 use Rattle.rules.proofs.Words.{word-order}
 use Rattle.rules.proofs.LiveWords.{live-take}
 use Rattle.rules.proofs.Indices.{index-routes, listed-within, listed-short, isLive?}
 use Rattle.rules.proofs.Searches.{key-prefix, position-found, live-at-place}
 use Rattle.rules.proofs.RouteWords.{zeros-drop}
-use Rattle.rules.proofs.Placed.{prefixAt, with-new, with-same, without-one}
+use Rattle.rules.proofs.Placed.{with-new, with-same, without-one}
 
 -- ---- the prefixes around a place
 

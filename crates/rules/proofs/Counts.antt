@@ -13,9 +13,9 @@ use Rattle.ground.proofs.Cases.{by-lt}
 use Rattle.ground.proofs.Tests.{Decides, leb?, and?, iff?, says, same-test}
 use Rattle.ground.proofs.Members.{mem-index, index-mem}
 use Rattle.prefix.specs.declared.Prefix.{Prefix}
-use Rattle.rules.specs.Words.{prefixOf, isRule, IsRule}
+use Rattle.rules.specs.Words.{isRule, IsRule}
 use Rattle.rules.specs.Rules.{live, every, formed, Formed}
-use Rattle.rules.specs.inner.Places.{keyAt}
+use Rattle.rules.specs.inner.Places.{prefixAt, keyAt}
 use Rattle.rules.specs.inner.Form.{InOrder, CountIs, FormIs}
 use Rattle.rules.proofs.Words.{some-word, word-order, isRule?}
 use Rattle.rules.proofs.LiveWords.{live-at, live-first, live-within}
@@ -87,8 +87,8 @@ module _ {t : Prefix} {ws : List ℕ} {n : ℕ} (c : CountIs t ws n) where
             let i = mem-index 0 (live ws) m in
             subst (IsRule t) (sym (live-at ws (i .0) (i .1)) ∙ i .2) (c .in-order .rules (i .0) (omega (arith, i .1)));
         order = rise-routes ws (λ i j l h.
-            let short : (k : ℕ) → k < n → prefixOf (getD ws k 0) .length ≤ 32 = λ k h. c .in-order .rules k h .route .formed .short in
-            word-order (prefixOf (getD ws i 0)) (prefixOf (getD ws j 0)) (short i (omega arith)) (short j (omega arith)) .0
+            let short : (k : ℕ) → k < n → prefixAt ws k .length ≤ 32 = λ k h. c .in-order .rules k h .route .formed .short in
+            word-order (prefixAt ws i) (prefixAt ws j) (short i (omega arith)) (short j (omega arith)) .0
             (c .in-order .order i j l (omega arith)));
         rest = λ i l. z i (omega arith);
       }

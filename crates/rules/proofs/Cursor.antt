@@ -11,20 +11,16 @@ use lib.ListN.{getD}
 use borrow.Author.Count.{below-more}
 use Rattle.ground.proofs.Tests.{Decides, fails, ltb?, or?, iff?, same-test}
 use Rattle.ground.proofs.Cases.{by-lt}
-use Rattle.prefix.specs.Prefixes.{top, lower, shorter, Before}
+use Rattle.prefix.specs.Prefixes.{top}
 use Rattle.prefix.specs.Geometry.{width, blockSize}
 use Rattle.prefix.specs.Routes.{Route}
 use Rattle.prefix.proofs.Blocks.{Opened, opened?}
-use Rattle.rules.specs.Words.{prefixOf, routeOf, keyOf}
+use Rattle.rules.specs.Words.{routeOf, keyOf}
 use Rattle.rules.specs.Rules.{routes}
-use Rattle.rules.specs.inner.Places.{Listed, PositionIs}
+use Rattle.rules.specs.inner.Places.{Listed, prefixAt, PositionIs}
 use Rattle.rules.specs.inner.Blocks.{Reached, StretchIs, PassedIs}
 use Rattle.rules.proofs.Words.{key-from}
-use Rattle.rules.proofs.Indices.{routes-index, index-routes, routes-rise, listed-short}
-
--- the address of the word at an index
-abbrev addressAt : List ℕ → ℕ → ℕ
-addressAt ws i = prefixOf (getD ws i 0) .address
+use Rattle.rules.proofs.Indices.{routes-index, index-routes, listed-short, keys-rise}
 
 -- ---- where it stands
 
@@ -34,11 +30,11 @@ pub reached-from : {ws : List ℕ} {n k at : ℕ} (a : ℕ) → Listed ws n → 
 reached-from {ws} {n} a s e q = record {
   within = q .within;
   below = λ i l. from i (omega (arith, q .within)) .0 (omega (arith, q .below i l));
-  above = λ i l m. by-lt (addressAt ws i) a (λ h. absurd (omega (arith, q .above i l m, from i m .1 h))) (λ h. h);
+  above = λ i l m. by-lt (prefixAt ws i .address) a (λ h. absurd (omega (arith, q .above i l m, from i m .1 h))) (λ h. h);
 }
   where
-    from : (i : ℕ) → i < n → (keyOf (prefixOf (getD ws i 0)) < keyOf (record { address = a; length = 0 })) ↔ (addressAt ws i < a)
-    from i l = key-from a (prefixOf (getD ws i 0)) (listed-short s i l)
+    from : (i : ℕ) → i < n → (keyOf (prefixAt ws i) < keyOf (record { address = a; length = 0 })) ↔ (prefixAt ws i .address < a)
+    from i l = key-from a (prefixAt ws i) (listed-short s i l)
 
 -- it stands where it stood while no rule's address is passed
 pub reached-between : (ws : List ℕ) (n a b c at : ℕ) → a ≤ b → b ≤ c → Reached ws n a at → Reached ws n c at → Reached ws n b at
@@ -48,34 +44,24 @@ reached-between ws n a b c at h k p q = record {
   above = λ i l m. omega (arith, q .above i l m);
 }
 
--- addresses rise with the index
-addresses-rise : {ws : List ℕ} {n : ℕ} → Listed ws n → (i k : ℕ) → i ≤ k → k < n → addressAt ws i ≤ addressAt ws k
-addresses-rise {ws} s i k le h =
-    by-lt i k (λ l. low (routes-rise ws (s .order) i k l (omega (arith, s .count)))) (λ l.
-    let same : i ≡ k = omega arith in omega (arith, ap (addressAt ws) same))
-  where
-    low : Before (prefixOf (getD ws i 0)) (prefixOf (getD ws k 0)) → addressAt ws i ≤ addressAt ws k
-    low (lower h) = omega arith
-    low (shorter e h) = omega arith
-
 -- it stands at i where every rule before i has an address below b, and the rule at i has not
-reached-at : {ws : List ℕ} {n b i : ℕ} → Listed ws n → i ≤ n → ((k : ℕ) → k < i → addressAt ws k < b) → (i < n → b ≤ addressAt ws i) → Reached ws n b i
+reached-at : {ws : List ℕ} {n b i : ℕ} → Listed ws n → i ≤ n → ((k : ℕ) → k < i → prefixAt ws k .address < b) → (i < n → b ≤ prefixAt ws i .address) → Reached ws n b i
 reached-at {i = i} s h below e = record {
   within = h;
   below = below;
-  above = λ k l m. omega (arith, e (omega arith), addresses-rise s i k l m);
+  above = λ k l m. omega (arith, e (omega arith), keys-rise s i k l m, listed-short s i (omega arith), listed-short s k m);
 }
 
 -- up to k blocks on, where the rule at the cursor has its address past them
 pub stretch-to : {ws : List ℕ} {n at a left : ℕ} (k : ℕ) → Listed ws n → Reached ws n a at → k ≤ left
-    → (at < n → a + blockSize * k ≤ addressAt ws at) → StretchIs ws n at a left k
+    → (at < n → a + blockSize * k ≤ prefixAt ws at .address) → StretchIs ws n at a left k
 stretch-to k s p h e = record { within = h; reached = reached-at s (p .within) (λ i l. omega (arith, p .below i l)) e }
 
 -- ---- open blocks
 
 -- a rule longer than 24 stands from `at` to before `next`
 abbrev pub LongIn : List ℕ → ℕ → ℕ → Type 0
-LongIn ws at next = (i : ℕ) × (at ≤ i) × (i < next) × (width < prefixOf (getD ws i 0) .length)
+LongIn ws at next = (i : ℕ) × (at ≤ i) × (i < next) × (width < prefixAt ws i .length)
 
 -- The rules whose address lies in a block stand between the cursor at its start and the cursor at its end, so the block is open
 -- exactly if one of them is longer than 24.
@@ -88,7 +74,7 @@ open-between ws n a at next s z p q = (to, from)
     to o =
         let i = routes-index ws (o .1) in
         let l : i .0 < n = omega (arith, i .1, s .count) in
-        let inside : addressAt ws (i .0) / blockSize ≡ a / blockSize = ap (λ (r : Route). top width (r .prefix .address)) (i .2) ∙ o .2 .inside in (
+        let inside : prefixAt ws (i .0) .address / blockSize ≡ a / blockSize = ap (λ (r : Route). top width (r .prefix .address)) (i .2) ∙ o .2 .inside in (
           i .0,
           by-lt (i .0) at (λ h. absurd (omega (arith, p .below (i .0) h))) (λ h. h),
           by-lt (i .0) next (λ h. h) (λ h. absurd (omega (arith, q .above (i .0) h l))),
@@ -109,7 +95,7 @@ open-between ws n a at next s z p q = (to, from)
 pub record Passing (ws : List ℕ) (n a at i : ℕ) (opened : Bool) : Type 0 where
   pub from : at ≤ i
   pub within : i ≤ n
-  pub below : (k : ℕ) → k < i → addressAt ws k < a + blockSize
+  pub below : (k : ℕ) → k < i → prefixAt ws k .address < a + blockSize
   pub long : Decides (LongIn ws at i) opened
 
 pub passing-start : (ws : List ℕ) (n a at : ℕ) → Reached ws n a at → Passing ws n a at at false
@@ -120,27 +106,27 @@ passing-start ws n a at p = record {
   long = fails (λ i. omega (arith, i .1, i .2));
 }
 
-pub passing-more : (ws : List ℕ) (n a at i : ℕ) (opened : Bool) → Passing ws n a at i opened → i < n → addressAt ws i < a + blockSize
-    → Passing ws n a at (i + 1) (opened || ltb width (prefixOf (getD ws i 0) .length))
+pub passing-more : (ws : List ℕ) (n a at i : ℕ) (opened : Bool) → Passing ws n a at i opened → i < n → prefixAt ws i .address < a + blockSize
+    → Passing ws n a at (i + 1) (opened || ltb width (prefixAt ws i .length))
 passing-more ws n a at i opened p l h = record {
   from = omega arith;
   within = omega arith;
-  below = below-more (λ (k : ℕ). addressAt ws k < a + blockSize) i (p .below) h;
-  long = iff? (or? (p .long) (ltb? width (prefixOf (getD ws i 0) .length))) to from;
+  below = below-more (λ (k : ℕ). prefixAt ws k .address < a + blockSize) i (p .below) h;
+  long = iff? (or? (p .long) (ltb? width (prefixAt ws i .length))) to from;
 }
   where
-    to : LongIn ws at i ⊎ (width < prefixOf (getD ws i 0) .length) → LongIn ws at (i + 1)
+    to : LongIn ws at i ⊎ (width < prefixAt ws i .length) → LongIn ws at (i + 1)
     to (inl k) = (k .0, k .1, omega (arith, k .2), k .3)
     to (inr b) = (i, p .from, omega arith, b)
 
-    from : LongIn ws at (i + 1) → LongIn ws at i ⊎ (width < prefixOf (getD ws i 0) .length)
+    from : LongIn ws at (i + 1) → LongIn ws at i ⊎ (width < prefixAt ws i .length)
     from k =
         by-lt (k .0) i (λ m. inl (k .0, k .1, m, k .3)) (λ m.
-        inr (subst (λ (j : ℕ). width < prefixOf (getD ws j 0) .length) (omega (arith, k .2)) (k .3)))
+        inr (subst (λ (j : ℕ). width < prefixAt ws j .length) (omega (arith, k .2)) (k .3)))
 
 -- at the end of the block, or of the list
 pub passing-met : (ws : List ℕ) (n a at i : ℕ) (opened : Bool) → Listed ws n → a % blockSize ≡ 0 → Reached ws n a at
-    → Passing ws n a at i opened → (i < n → a + blockSize ≤ addressAt ws i) → PassedIs ws n a i opened
+    → Passing ws n a at i opened → (i < n → a + blockSize ≤ prefixAt ws i .address) → PassedIs ws n a i opened
 passing-met ws n a at i opened s z p q e = record {
   reached = reached;
   opened = let o = open-between ws n a at i s z p reached in same-test (q .long) (iff? (opened? width (routes ws) a) (o .0) (o .1));

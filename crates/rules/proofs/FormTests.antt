@@ -13,7 +13,7 @@ use Rattle.ground.proofs.Cases.{by-lt}
 use Rattle.ground.proofs.Tests.{Decides, holds, eqb?, and?, iff?}
 use Rattle.ground.proofs.Members.{mem-index, index-mem}
 use Rattle.prefix.specs.declared.Prefix.{Prefix}
-use Rattle.prefix.specs.Prefixes.{before, Before}
+use Rattle.prefix.specs.Prefixes.{Before}
 use Rattle.prefix.specs.Routes.{Route, IsRoute, Ascending}
 use Rattle.prefix.proofs.Order.{before?}
 use Rattle.rules.specs.Words.{prefixOf, routeOf, isRule, IsRule}

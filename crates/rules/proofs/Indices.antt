@@ -3,18 +3,20 @@ use mathlib.Core.Path.{_≡_, refl, sym, ap, subst, _∙_}
 use mathlib.Core.Logic.{_⊎_, inl, inr}
 use mathlib.Core.List.{List, [], _∷_, map, List·Memᴰ as Mem, List·Memᴰ·head as here, List·Memᴰ·tail as there, List·Memᴰ·not-nil, Memᴰ·cast, Memᴰ·map, Memᴰ·of-map}
 use Prim.Native.Nat.{ℕ, zero, suc, _≤_, _<_}
+use native.Mathlib.Nat.{le-of-lt, le-of-eq}
 use native.Mathlib.Omega.{arith}
 use lib.ListN.{length, getD}
+use Rattle.ground.proofs.Cases.{by-lt}
 use Rattle.ground.proofs.Tests.{Decides, fails, or?, iff?}
 use Rattle.ground.proofs.Members.{mem-index, index-mem}
 use Rattle.prefix.specs.declared.Prefix.{Prefix}
 use Rattle.prefix.specs.Prefixes.{Before}
 use Rattle.prefix.specs.Routes.{Route, IsRoute, Ascending}
-use Rattle.prefix.proofs.Order.{samePrefix?}
+use Rattle.prefix.proofs.Order.{key, samePrefix?}
 use Rattle.rules.specs.Words.{prefixOf, routeOf}
 use Rattle.rules.specs.Rules.{live, routes, isLive}
-use Rattle.rules.specs.inner.Places.{Listed, keyAt}
-use Rattle.rules.proofs.Words.{word-order}
+use Rattle.rules.specs.inner.Places.{Listed, prefixAt, keyAt}
+use Rattle.rules.proofs.Words.{key-less, word-order}
 use Rattle.rules.proofs.LiveWords.{live-at, live-within}
 
 -- ---- members
@@ -35,7 +37,7 @@ index-routes ws i h e =
 
 -- the prefixes of a list of words ascend with the index
 abbrev pub Rising : List ℕ → ℕ → Type 0
-Rising ws n = (i j : ℕ) → i < j → j < n → Before (prefixOf (getD ws i 0)) (prefixOf (getD ws j 0))
+Rising ws n = (i j : ℕ) → i < j → j < n → Before (prefixAt ws i) (prefixAt ws j)
 
 ascending-rises : (vs : List ℕ) → Ascending (map routeOf vs) → Rising vs (length vs)
 ascending-rises [] o i j l h = absurd (omega arith)
@@ -74,13 +76,20 @@ module _ {ws : List ℕ} {n : ℕ} (l : Listed ws n) where
   pub listed-route : (i : ℕ) → i < n → IsRoute (routeOf (getD ws i 0))
   listed-route i h = l .all (routeOf (getD ws i 0)) (index-routes ws i (omega arith) refl)
 
-  pub listed-short : (i : ℕ) → i < n → prefixOf (getD ws i 0) .length ≤ 32
+  pub listed-short : (i : ℕ) → i < n → prefixAt ws i .length ≤ 32
   listed-short i h = listed-route i h .formed .short
 
   pub listed-order : (i j : ℕ) → i < j → j < n → keyAt ws i < keyAt ws j
   listed-order i j ij h =
-      word-order (prefixOf (getD ws i 0)) (prefixOf (getD ws j 0)) (listed-short i (omega arith)) (listed-short j h) .1
+      word-order (prefixAt ws i) (prefixAt ws j) (listed-short i (omega arith)) (listed-short j h) .1
       (routes-rise ws (l .order) i j ij (omega arith))
+
+  -- the same as one number, of a word and of one no earlier
+  pub keys-rise : (i j : ℕ) → i ≤ j → j < n → key (prefixAt ws i) ≤ key (prefixAt ws j)
+  keys-rise i j ij h =
+      by-lt i j
+      (λ less. le-of-lt (key-less (prefixAt ws i) (prefixAt ws j) (listed-short i (omega arith)) (listed-short j h) .0 (listed-order i j less h)))
+      (λ ge. let e : i ≡ j = omega arith in le-of-eq (ap (λ (k : ℕ). key (prefixAt ws k)) e))
 
 -- ---- a live prefix
 

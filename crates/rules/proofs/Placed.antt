@@ -3,7 +3,7 @@ use mathlib.Core.Path.{_≡_, refl, ap, ap₂, sym, _∙_}
 use mathlib.Core.List.{List, [], _∷_, _++_, map, List·Memᴰ as Mem, Memᴰ·of-map}
 use Prim.Native.Nat.{ℕ, zero, suc, _≤_, _<_}
 use native.Mathlib.Omega.{arith}
-use lib.ListN.{length, getD, take, drop}
+use lib.ListN.{length, take, drop}
 use Rattle.ground.proofs.Tests.{says, denies}
 use Rattle.ground.proofs.Members.{mem-index}
 use Rattle.prefix.specs.declared.Prefix.{Prefix}
@@ -11,12 +11,9 @@ use Rattle.prefix.specs.Prefixes.{Before}
 use Rattle.prefix.specs.Routes.{Route, with-route, other, without}
 use Rattle.prefix.proofs.Changes.{with-before, with-there, with-after, keep-cases, other?, without-absent}
 use Rattle.rules.specs.Words.{prefixOf, routeOf, wordOf}
+use Rattle.rules.specs.inner.Places.{prefixAt}
 use Rattle.rules.proofs.Words.{word-route}
 use Rattle.rules.proofs.RouteWords.{word-routes}
-
--- the prefix of the word at an index
-abbrev pub prefixAt : List ℕ → ℕ → Prefix
-prefixAt vs i = prefixOf (getD vs i 0)
 
 module _ (r : Route) where
   -- a word that stays before the place

@@ -12,9 +12,9 @@ use Rattle.ground.proofs.Tests.{eqb?, iff?, stops, same-test}
 use Rattle.prefix.specs.declared.Prefix.{Prefix}
 use Rattle.prefix.specs.Prefixes.{WellFormed}
 use Rattle.prefix.specs.Routes.{Route}
-use Rattle.rules.specs.Words.{prefixOf, routeOf, keyOf}
+use Rattle.rules.specs.Words.{routeOf, keyOf}
 use Rattle.rules.specs.Rules.{routes}
-use Rattle.rules.specs.inner.Places.{Listed, keyAt, PositionIs, PlaceIs}
+use Rattle.rules.specs.inner.Places.{Listed, prefixAt, keyAt, PositionIs, PlaceIs}
 use Rattle.rules.proofs.Words.{key-same}
 use Rattle.rules.proofs.Indices.{routes-index, index-routes, listed-short, listed-order, IsLive, isLive?}
 
@@ -63,9 +63,9 @@ bracket-met b h = record {
 
 module _ {ws : List ℕ} {n : ℕ} {p : Prefix} {at : ℕ} (s : Listed ws n) (w : WellFormed p) (q : PositionIs ws n (keyOf p) at) where
   -- a word is of the prefix exactly if it has its key
-  pub key-prefix : (i : ℕ) → i < n → keyAt ws i ≡ keyOf p → prefixOf (getD ws i 0) ≡ p
+  pub key-prefix : (i : ℕ) → i < n → keyAt ws i ≡ keyOf p → prefixAt ws i ≡ p
   key-prefix i l e =
-      key-same (prefixOf (getD ws i 0)) p (listed-short s i l) (w .short) .0 e
+      key-same (prefixAt ws i) p (listed-short s i l) (w .short) .0 e
 
   -- a word of the prefix is at the place
   pub position-found : (i : ℕ) → i < n → keyAt ws i ≡ keyOf p → i ≡ at

@@ -43,22 +43,13 @@ some-route r i e = omega (arith, i .some-hop)
 
 -- ---- what the code reads and makes
 
-module _ (w : ℕ) where
-  pub address-is : w / 2 ^ 32 ≡ prefixOf w .address
-  unfolding routeOf
-  address-is = refl
+pub route-is : (w : ℕ) → record { prefix = record { address = w / 2 ^ 32; length = w / 2 ^ 16 % 2 ^ 16 }; hop = w % 2 ^ 16 } ≡ routeOf w
+unfolding routeOf
+route-is w = refl
 
-  pub length-is : w / 2 ^ 16 % 2 ^ 16 ≡ prefixOf w .length
-  unfolding routeOf
-  length-is = refl
-
-  pub hop-is : w % 2 ^ 16 ≡ routeOf w .hop
-  unfolding routeOf
-  hop-is = refl
-
-  pub word-key : w / 2 ^ 16 ≡ keyOf (prefixOf w)
-  unfolding routeOf keyOf
-  word-key = omega arith
+pub word-key : (w : ℕ) → w / 2 ^ 16 ≡ keyOf (prefixOf w)
+unfolding routeOf keyOf
+word-key w = omega arith
 
 pub key-is : (p : Prefix) → p .address * 2 ^ 16 + p .length ≡ keyOf p
 unfolding keyOf

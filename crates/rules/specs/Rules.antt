@@ -40,6 +40,7 @@ unfoldable pub ascending : List ℕ → Bool
 ascending [] = true
 ascending (w ∷ ws) = every (λ v. before (prefixOf w) (prefixOf v)) ws && ascending ws
 
+-- (A word that is no rule is damage, so what `ascending` says of a length above 32 never decides.)
 unfoldable pub formed : Prefix → List ℕ → Bool
 formed t ws = every (isRule t) (live ws) && ascending (live ws) && every (eqb 0) (drop (length (live ws)) ws)
 

@@ -1,11 +1,8 @@
 // Which rules lie in a block: where they stand in the list of live rules, and whether one of them opens it.
 ghost use mathlib.Core.Path.{_≡_};
-ghost use mathlib.Core.Bool.{_||_};
 ghost use Prim.Native.Nat.{_%_, _^_, _<_};
-ghost use lib.Dec.{ltb};
-ghost use Rattle.prefix.specs.Geometry.{width, blockSize};
+ghost use Rattle.prefix.specs.Geometry.{blockSize};
 ghost use Rattle.prefix.specs.Price.{isOpen};
-ghost use Rattle.rules.specs.Words.{prefixOf};
 ghost use Rattle.rules.specs.Rules.{routes};
 ghost use Rattle.rules.specs.inner.Places.{Listed};
 ghost use Rattle.rules.specs.inner.Blocks.{Reached, StretchIs, PassedIs};
@@ -28,16 +25,6 @@ pub fn reach(rules: &[u64], live: usize, address: u32) -> usize
     position(rules, live, Rule::key_of(Prefix { address, length: 0 }))
 }
 
-// Whether a rule longer than a block was passed, once the word is passed too.
-fn opens(opened: bool, word: u64) -> bool
-    ensures { λ r. ⌜ r ≡ (opened || ltb width (prefixOf word .length)) ⌝ }
-{
-    if opened {
-        return true;
-    }
-    Block::WIDTH < Rule::length(word)
-}
-
 // Past the rules of the block that starts at the address `start`. The cursor stands at the first of them.
 pub fn pass(rules: &[u64], live: usize, at: usize, start: u64) -> Cursor
     requires { ⌜ Listed (now rules) live ⌝ }
@@ -49,10 +36,10 @@ pub fn pass(rules: &[u64], live: usize, at: usize, start: u64) -> Cursor
     let mut opened = false;
     while i < live {
         let word = rules[i];
-        if start + Block::SIZE as u64 <= Rule::address(word) as u64 {
+        if start + Block::SPAN <= Rule::address(word) as u64 {
             return Cursor { at: i, opened };
         }
-        opened = opens(opened, word);
+        opened = opened | (Block::WIDTH < Rule::length(word));
         i += 1;
     }
     Cursor { at: i, opened }
@@ -67,7 +54,7 @@ pub fn stretch(rules: &[u64], live: usize, at: usize, start: u64, left: usize) -
     if at == live {
         return left;
     }
-    let ahead = ((Rule::address(rules[at]) as u64 - start) / Block::SIZE as u64) as usize;
+    let ahead = ((Rule::address(rules[at]) as u64 - start) / Block::SPAN) as usize;
     if left < ahead {
         return left;
     }

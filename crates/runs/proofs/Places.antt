@@ -1,11 +1,11 @@
 -- What a count of the words up to a prefix around an address says of the list of routes: which route is the last up to the prefix, where
 -- the next one starts, and how a count leads to the next, shorter one. Assumes nothing.
-use mathlib.Core.Path.{_≡_, refl, ap, subst}
+use mathlib.Core.Path.{_≡_, refl, subst}
 use mathlib.Core.Logic.{_⊎_, inl, inr, ⊎-elim}
 use mathlib.Core.Bool.{true, false}
 use mathlib.Core.List.{List, List·Memᴰ as Mem}
 use Prim.Native.Nat.{ℕ, _-_, _^_, _≤_, _<_}
-use native.Mathlib.Nat.{le-refl, le-of-lt, le-of-eq}
+use native.Mathlib.Nat.{le-refl}
 use native.Mathlib.Omega.{arith}
 use lib.ListN.{getD}
 use Rattle.ground.proofs.Cases.{by-lt}
@@ -14,12 +14,12 @@ use Rattle.prefix.specs.declared.Prefix.{Prefix}
 use Rattle.prefix.specs.Prefixes.{Contains}
 use Rattle.prefix.specs.Routes.{Route}
 use Rattle.prefix.proofs.Prefixes.{contains?}
-use Rattle.prefix.proofs.Order.{key, key-order}
+use Rattle.prefix.proofs.Order.{key}
 use Rattle.rules.specs.Words.{prefixOf, routeOf, keyOf}
 use Rattle.rules.specs.Rules.{routes}
-use Rattle.rules.specs.inner.Places.{Listed}
+use Rattle.rules.specs.inner.Places.{Listed, prefixAt}
 use Rattle.rules.proofs.Words.{key-less}
-use Rattle.rules.proofs.Indices.{routes-index, index-routes, routes-rise, listed-short}
+use Rattle.rules.proofs.Indices.{routes-index, index-routes, listed-short, keys-rise}
 use Rattle.runs.specs.inner.Steps.{around, lastOf, CountUpTo, settled, SharedIs, ClimbIs, NextIs}
 use Rattle.runs.proofs.Matches.{UpTo, Last, nothing, found, climbs, some-length}
 
@@ -31,23 +31,15 @@ key-le p q h k l = by-lt (key q) (key p) (λ m. absurd (omega (arith, key-less q
 each : {ws : List ℕ} {n : ℕ} (P : Route → Type 0) → Listed ws n → ((k : ℕ) → k < n → P (routeOf (getD ws k 0))) → (r : Route) → Mem r (routes ws) → P r
 each {ws} {n} P s f r m = let i = routes-index ws m in subst P (i .2) (f (i .0) (omega (arith, i .1, s .count)))
 
--- a later word has no lower key
-keys-rise : {ws : List ℕ} {n : ℕ} → Listed ws n → (j k : ℕ) → j ≤ k → k < n → key (prefixOf (getD ws j 0)) ≤ key (prefixOf (getD ws k 0))
-keys-rise {ws} s j k le h =
-    by-lt j k (λ lt.
-    le-of-lt (key-order (prefixOf (getD ws j 0)) (prefixOf (getD ws k 0)) (listed-short s j (omega arith)) (listed-short s k h) .1
-    (routes-rise ws (s .order) j k lt (omega (arith, s .count))))) (λ ge.
-    let e : j ≡ k = omega arith in le-of-eq (ap (λ (i : ℕ). key (prefixOf (getD ws i 0))) e))
-
 -- ---- the last route up to a prefix
 
 module _ {ws : List ℕ} {n i : ℕ} (a l : ℕ) (s : Listed ws n) (short : l ≤ 32) (q : CountUpTo ws n l a i) where
-  past-count : (k : ℕ) → i ≤ k → k < n → key (around l a) < key (prefixOf (getD ws k 0))
-  past-count k ge h = key-less (around l a) (prefixOf (getD ws k 0)) short (listed-short s k h) .0 (omega (arith, q .above k ge h))
+  past-count : (k : ℕ) → i ≤ k → k < n → key (around l a) < key (prefixAt ws k)
+  past-count k ge h = key-less (around l a) (prefixAt ws k) short (listed-short s k h) .0 (omega (arith, q .above k ge h))
 
-  in-count : (k : ℕ) → k < i → key (prefixOf (getD ws k 0)) ≤ key (around l a)
+  in-count : (k : ℕ) → k < i → key (prefixAt ws k) ≤ key (around l a)
   in-count k lt =
-      key-le (prefixOf (getD ws k 0)) (around l a) (listed-short s k (omega (arith, q .within))) short (omega (arith, q .below k lt))
+      key-le (prefixAt ws k) (around l a) (listed-short s k (omega (arith, q .within))) short (omega (arith, q .below k lt))
 
   none-up-to : i ≡ 0 → (r : Route) → Mem r (routes ws) → key (around l a) < key (r .prefix)
   none-up-to z = each (λ r. key (around l a) < key (r .prefix)) s (λ k h. past-count k (omega arith) h)
@@ -68,7 +60,7 @@ module _ {ws : List ℕ} {n i : ℕ} (a l : ℕ) (s : Listed ws n) (short : l �
 
 module _ {ws : List ℕ} {n i : ℕ} (a : ℕ) (s : Listed ws n) (q : CountUpTo ws n 32 a i) where
   -- each word that is counted starts at a or before
-  counted : (k : ℕ) → k < i → prefixOf (getD ws k 0) .address ≤ a
+  counted : (k : ℕ) → k < i → prefixAt ws k .address ≤ a
   counted k h = omega (arith, in-count a 32 s (le-refl 32) q k h)
 
   pub next-none : i ≡ n → a < 2 ^ 32 → NextIs (routes ws) a (2 ^ 32)
@@ -79,7 +71,7 @@ module _ {ws : List ℕ} {n i : ℕ} (a : ℕ) (s : Listed ws n) (q : CountUpTo 
         next = each (λ r. r .prefix .address < 2 ^ 32 → r .prefix .address ≤ a) s (λ k h up. counted k (omega arith));
       }
 
-  pub next-some : {r : ℕ} → i < n → prefixOf (getD ws i 0) .address ≤ 2 ^ 32 → r ≡ prefixOf (getD ws i 0) .address → NextIs (routes ws) a r
+  pub next-some : {r : ℕ} → i < n → prefixAt ws i .address ≤ 2 ^ 32 → r ≡ prefixAt ws i .address → NextIs (routes ws) a r
   next-some {r} some fits e =
       record {
         past = omega (arith, listed-short s i some, past-count a 32 s (le-refl 32) q i (le-refl i) some);
@@ -88,7 +80,7 @@ module _ {ws : List ℕ} {n i : ℕ} (a : ℕ) (s : Listed ws n) (q : CountUpTo 
             by-lt k i (counted k) (λ ge. absurd (later k ge h low)));
       }
     where
-      later : (k : ℕ) → i ≤ k → k < n → prefixOf (getD ws k 0) .address < r → ⊥
+      later : (k : ℕ) → i ≤ k → k < n → prefixAt ws k .address < r → ⊥
       later k ge h low =
           omega (arith, listed-short s i some, listed-short s k h, keys-rise s i k ge h)
 

@@ -3,17 +3,16 @@ use mathlib.Core.Path.{_≡_}
 use Prim.Native.Nat.{ℕ, _+_, _*_, _≤_, _<_}
 use mathlib.Core.Bool.{Bool}
 use mathlib.Core.List.{List}
-use lib.ListN.{getD}
 use Rattle.prefix.specs.Geometry.{blockSize}
 use Rattle.prefix.specs.Price.{isOpen}
-use Rattle.rules.specs.Words.{prefixOf}
 use Rattle.rules.specs.Rules.{routes}
+use Rattle.rules.specs.inner.Places.{prefixAt}
 
 -- of the n live rules, those before `at` have an address below a, and those from `at` on have not
 pub record Reached (ws : List ℕ) (n a at : ℕ) : Type 0 where
   pub within : at ≤ n
-  pub below : (i : ℕ) → i < at → prefixOf (getD ws i 0) .address < a
-  pub above : (i : ℕ) → at ≤ i → i < n → a ≤ prefixOf (getD ws i 0) .address
+  pub below : (i : ℕ) → i < at → prefixAt ws i .address < a
+  pub above : (i : ℕ) → at ≤ i → i < n → a ≤ prefixAt ws i .address
 
 -- from a on, no rule's address lies in the next k blocks, at most `left`
 pub record StretchIs (ws : List ℕ) (n at a left k : ℕ) : Type 0 where

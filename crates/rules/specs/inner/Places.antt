@@ -17,9 +17,12 @@ pub record Listed (ws : List ℕ) (n : ℕ) : Type 0 where
   pub order : Ascending (routes ws)
   pub rest : (i : ℕ) → n ≤ i → getD ws i 0 ≡ 0
 
--- the key of the word at an index
+-- the prefix of the word at an index, and its key
+abbrev pub prefixAt : List ℕ → ℕ → Prefix
+prefixAt ws i = prefixOf (getD ws i 0)
+
 abbrev pub keyAt : List ℕ → ℕ → ℕ
-keyAt ws i = keyOf (prefixOf (getD ws i 0))
+keyAt ws i = keyOf (prefixAt ws i)
 
 -- at is the first index below n whose key is at least k, or n
 pub record PositionIs (ws : List ℕ) (n k at : ℕ) : Type 0 where

@@ -1,7 +1,7 @@
 -- `runs::up_to` meets its contract: the words whose key is below one more than a prefix's are those up to the prefix. Assumes nothing.
-use mathlib.Core.Path.{_≡_, ap, subst, _∙_}
+use mathlib.Core.Path.{_≡_, ap, subst}
 use mathlib.Core.List.{List}
-use Prim.Native.Nat.{ℕ, _+_}
+use Prim.Native.Nat.{ℕ}
 use native.Mathlib.Omega.{arith}
 use borrow.Author.Needs.{needs}
 use Rattle.rules.specs.Words.{keyOf}
@@ -32,9 +32,8 @@ position-requires c κs = search needs
 returns : tie.Need-returns
 returns c =
     let l = c .before .before .before .before .args .length in
-    at-key (c .position .ensures)
-    (ap (λ (k : ℕ). k + 1) (c .before .key-of .ensures)
-    ∙ ap (λ (a : ℕ). keyOf (record { address = a; length = l }) + 1) (c .before .before .cleared .ensures))
+    let same = ap (λ (a : ℕ). keyOf (record { address = a; length = l })) (c .before .before .cleared .ensures) in
+    at-key (c .position .ensures) (omega (arith, c .before .key-of .ensures))
 
 pub up-to-spec : {M : Type 1} → statement M
 up-to-spec =

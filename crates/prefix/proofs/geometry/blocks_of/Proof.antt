@@ -13,12 +13,6 @@ use Rattle.prefix.proofs.geometry.blocks_of.Tie as tie
 span-of-requires : tie.Need-span-of-requires
 span-of-requires c κs = search needs
 
-cast-result : tie.Need-cast-result
-cast-result c = search needs
-
-div-result : tie.Need-div-result
-div-result c = search needs
-
 returns : tie.Need-returns
 returns c =
     let l = c .before .args .length in
@@ -26,4 +20,4 @@ returns c =
     omega (arith, c .span-of .ensures)
 
 pub blocks-of-spec : {M : Type 1} → statement M
-blocks-of-spec = tie.close (tie.spec span-of-requires cast-result div-result returns)
+blocks-of-spec = tie.close (tie.spec span-of-requires returns)

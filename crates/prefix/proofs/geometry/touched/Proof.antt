@@ -3,7 +3,7 @@ use mathlib.Core.Path.{_≡_, sym, ap}
 use Prim.Native.Nat.{ℕ, _-_, _^_}
 use native.Mathlib.Omega.{arith}
 use borrow.Author.Needs.{needs}
-use Rattle.prefix.specs.Geometry.{width, blockOf}
+use Rattle.prefix.specs.Geometry.{width}
 use Rattle.prefix.proofs.geometry.touched.Statement.{statement}
 use Rattle.prefix.proofs.geometry.touched.Tie as tie
 

@@ -1,9 +1,12 @@
 -- `blocks::pass` meets its contract. The invariant is `Passing`: the rules before i have an address below the block's end, and `opened`
 -- says whether one of those that were passed is longer than 24. Assumes nothing.
-use mathlib.Core.Path.{sym, subst}
-use Prim.Native.Nat.{_+_, _-_}
+use mathlib.Core.Path.{sym, ap, subst}
+use mathlib.Core.Bool.{_||_}
+use Prim.Native.Nat.{ℕ, _+_, _-_}
 use native.Mathlib.Omega.{arith}
+use lib.Dec.{ltb}
 use borrow.Author.Needs.{needs}
+use Rattle.prefix.specs.Geometry.{width}
 use Rattle.rules.proofs.Indices.{listed-within}
 use Rattle.rules.proofs.Cursor.{Passing, passing-start, passing-more, passing-met}
 use Rattle.rules.proofs.blocks.pass.Statement.{statement}
@@ -24,25 +27,22 @@ mul-word c = omega (arith, listed-within (c .before .before .before .pre .0))
 shared-slice-read-word : tie.Need-shared-slice-read-word Inv-loop μ-loop
 shared-slice-read-word c = omega (arith, listed-within (c .before .before .before .before .pre .0))
 
-cast-if1 : tie.Need-cast-if1 Inv-loop μ-loop
-cast-if1 c = search needs
-
 add-if1 : tie.Need-add-if1 Inv-loop μ-loop
 add-if1 c = search needs
 
 address-requires : tie.Need-address-requires Inv-loop μ-loop
 address-requires c κs = search needs
 
-cast-if1-2 : tie.Need-cast-if1-2 Inv-loop μ-loop
-cast-if1-2 c = search needs
+cast-if1 : tie.Need-cast-if1 Inv-loop μ-loop
+cast-if1 c = search needs
 
 returns : tie.Need-returns Inv-loop μ-loop
 returns c =
     let s = c .before .before .before .before .before .before in
     passing-met _ _ _ _ _ _ (s .pre .0) (s .pre .1 .1 .0) (s .pre .1 .0) (c .before .before .before .before .loop .inv) (λ l. omega arith)
 
-opens-requires : tie.Need-opens-requires Inv-loop μ-loop
-opens-requires c κs = search needs
+length-requires : tie.Need-length-requires Inv-loop μ-loop
+length-requires c κs = search needs
 
 add-i : tie.Need-add-i Inv-loop μ-loop
 add-i c = search needs
@@ -54,7 +54,7 @@ loop-again : tie.Need-loop-again Inv-loop μ-loop
 loop-again c =
     let s = c .before .before .before .before .before .before .before .args in
     let here = c .before .before .before .before .before .loop in
-    subst (Passing (s .rules .now) (s .live) (s .start) (s .at) (here .i + 1)) (sym (c .opens .ensures))
+    subst (Passing (s .rules .now) (s .live) (s .start) (s .at) (here .i + 1)) (ap (λ (l : ℕ). here .opened || ltb width l) (sym (c .length .ensures)))
     (passing-more (s .rules .now) (s .live) (s .start) (s .at) (here .i) (here .opened) (here .inv) (omega arith) (omega arith))
 
 returns-2 : tie.Need-returns-2 Inv-loop μ-loop
@@ -71,12 +71,11 @@ pass-spec =
     loop-holds
     mul-word
     shared-slice-read-word
-    cast-if1
     add-if1
     address-requires
-    cast-if1-2
+    cast-if1
     returns
-    opens-requires
+    length-requires
     add-i
     loop-less
     loop-again

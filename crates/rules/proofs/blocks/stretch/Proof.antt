@@ -28,12 +28,6 @@ cast-ahead c = search needs
 sub-ahead : tie.Need-sub-ahead
 sub-ahead c = let s = c .before .before .before .before in omega (arith, s .pre .1 .above (s .args .at) (omega arith) (omega arith))
 
-cast-ahead-2 : tie.Need-cast-ahead-2
-cast-ahead-2 c = search needs
-
-div-ahead : tie.Need-div-ahead
-div-ahead c = search needs
-
 returns-2 : tie.Need-returns-2
 returns-2 c =
     let s = c .before .before .before .before .before in
@@ -54,7 +48,5 @@ stretch-spec =
     address-requires
     cast-ahead
     sub-ahead
-    cast-ahead-2
-    div-ahead
     returns-2
     returns-3)

@@ -1,6 +1,8 @@
 -- `Rule::length` meets its contract, by the layout of a word. Assumes nothing.
+use mathlib.Core.Path.{ap}
 use borrow.Author.Needs.{needs}
-use Rattle.rules.proofs.Words.{length-is}
+use Rattle.prefix.specs.Routes.{Route}
+use Rattle.rules.proofs.Words.{route-is}
 use Rattle.rules.proofs.word.Rule.length.Statement.{statement}
 use Rattle.rules.proofs.word.Rule.length.Tie as tie
 
@@ -8,7 +10,7 @@ cast-result : tie.Need-cast-result
 cast-result c = search needs
 
 returns : tie.Need-returns
-returns c = length-is (c .args .word)
+returns c = ap (λ (r : Route). r .prefix .length) (route-is (c .args .word))
 
 pub length-spec : {M : Type 1} → statement M
 length-spec = tie.close (tie.spec cast-result returns)
