@@ -9,10 +9,10 @@ ghost use Rattle.cells.specs.Memory.{IsLent, lent, lentIn};
 ghost use Rattle.refusals.specs.Codes.{announces, withdraws, re-homes, clearCode};
 ghost use Rattle.refusals.specs.inner.Checks.{CheckedIs, Told, unlessDamaged, never, TestsTell, LiveTestsTell};
 use crate::damage::blocks_sound;
-use cells::cell::Cell;
 use cells::segments::free_segment;
 use cells::segments::needs_segment;
 use cells::sizes::lent;
+use prefix::LAST_HOP;
 use prefix::Prefix;
 use prefix::geometry::Blocks;
 use prefix::geometry::touched;
@@ -51,7 +51,7 @@ fn is_route(prefix: Prefix, hop: u32) -> bool
     if hop < 1 {
         return false;
     }
-    if Cell::LAST_HOP < hop {
+    if LAST_HOP < hop {
         return false;
     }
     prefix.well_formed()

@@ -87,11 +87,11 @@ module _ {t : Prefix} {m : Lent} {r : Route} {k : Checked} where
 -- ---- painting
 
 -- a segment is opened exactly where one is needed
-pub painted-opened : {t : Prefix} {r : Route} {T : Tables} {new b s c : ℕ} {after : Tables} → needsSegment t (r .prefix) T ≡ true → b ≡ blockOf t (r .prefix .address)
+pub painted-opened : (t : Prefix) (r : Route) (T : Tables) {new b s c : ℕ} {after : Tables} → needsSegment t (r .prefix) T ≡ true → b ≡ blockOf t (r .prefix .address)
     → s ≡ lowestFree (T .owners) → new ≡ pack (r .hop) (r .prefix .length)
     → left c after ≡ leaves (λ x. repainted t (r .prefix) (λ a. paintCell (r .prefix .length) new) (openedAt b s x)) T → left c after ≡ leaves (painted t r) T
 unfolding openedFor
-painted-opened {t} {r} {T} need eb es n o =
+painted-opened t r T need eb es n o =
     o
     ∙ ap₃ (λ (x y z : ℕ). leaves (λ u. repainted t (r .prefix) (λ a. paintCell (r .prefix .length) x) (openedAt y z u)) T) n eb es
     ∙ ap (λ (x : Bool).
@@ -102,10 +102,10 @@ painted-opened {t} {r} {T} need eb es n o =
     ap₃ : {A : Type 0} (f : ℕ → ℕ → ℕ → A) {x x′ y y′ z z′ : ℕ} → x ≡ x′ → y ≡ y′ → z ≡ z′ → f x y z ≡ f x′ y′ z′
     ap₃ f p q r i = f (p i) (q i) (r i)
 
-pub painted-direct : {t : Prefix} {r : Route} {T : Tables} {new c : ℕ} {after : Tables} → needsSegment t (r .prefix) T ≡ false → new ≡ pack (r .hop) (r .prefix .length)
+pub painted-direct : (t : Prefix) (r : Route) (T : Tables) {new c : ℕ} {after : Tables} → needsSegment t (r .prefix) T ≡ false → new ≡ pack (r .hop) (r .prefix .length)
     → left c after ≡ leaves (repainted t (r .prefix) (λ a. paintCell (r .prefix .length) new)) T → left c after ≡ leaves (painted t r) T
 unfolding openedFor
-painted-direct {t} {r} {T} none n o =
+painted-direct t r T none n o =
     o
     ∙ ap (λ (x : ℕ). leaves (repainted t (r .prefix) (λ a. paintCell (r .prefix .length) x)) T) n
     ∙ ap (λ (x : Bool).

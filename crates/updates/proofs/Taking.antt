@@ -37,6 +37,7 @@ use Rattle.rules.specs.Words.{routeOf}
 use Rattle.rules.proofs.LiveWords.{live-at}
 use Rattle.prefix.specs.Routes.{without, Ascending, AllRoutes, Route, keep, other, best}
 use Rattle.rules.specs.Rules.{live, routes, Formed, wordsOf}
+
 -- ---- the rules that are left
 
 -- a live prefix taken out leaves one route fewer
