@@ -113,5 +113,5 @@ module _ (t : Prefix) (r : Route) (rs : List Route) (T : Tables) (H : TablesOf t
   announced-keeps room k h o =
       let S = H .open-at k h o in
       pointer-stays (opened-tables room) (r .prefix) (λ a. paintCell (r .prefix .length) (pack (r .hop) (r .prefix .length))) k (S .number) h
-      (opened-first k o ∙ S .points)
+      (opened-first k o ∙ S .owns .points)
       ∙ opened-first k o

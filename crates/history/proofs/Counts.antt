@@ -42,15 +42,15 @@ points-own : {t : Prefix} {O : ℕ → Bool} {C : ℕ → ℕ} {T : Tables} → 
     → O k ≡ true → getD (T .first) k 0 ≡ pointTo s → (s < length (T .owners)) × (getD (T .owners) s 0 ≡ k + 1)
 points-own H k s h o e =
     let S = H .open-at k h o in
-    let n : S .number ≡ s = let q = sym (S .points) ∙ e in omega arith in
-    (rw n at (S .lent), rw n at (S .owner))
+    let n : S .number ≡ s = let q = sym (S .owns .points) ∙ e in omega arith in
+    (rw n at (S .owns .lent), rw n at (S .owns .owner))
 
 -- and the segment holds the cells of its addresses
 points-cells : {t : Prefix} {O : ℕ → Bool} {C : ℕ → ℕ} {T : Tables} → Holds t O C T → (k s : ℕ) → k < blocks t
     → O k ≡ true → getD (T .first) k 0 ≡ pointTo s → (i : ℕ) → i < blockSize → getD (T .long) (s * blockSize + i) 0 ≡ C (blockStart t k + i)
 points-cells H k s h o e i l =
     let S = H .open-at k h o in
-    let n : S .number ≡ s = let q = sym (S .points) ∙ e in omega arith in
+    let n : S .number ≡ s = let q = sym (S .owns .points) ∙ e in omega arith in
     rw n at (S .cells i l)
 
 module _ (t : Prefix) (rs vs : List Route) (m n : Tables) (all : AllRoutes rs) (all' : AllRoutes vs)
@@ -71,9 +71,9 @@ module _ (t : Prefix) (rs vs : List Route) (m n : Tables) (all : AllRoutes rs) (
   first-cell k h false false o q =
       ap₂ differs (T .closed k h o) (U .closed k h q) ∙ cells-differ _ _ (best-good rs _ all) (best-good vs _ all')
   first-cell k h false true o q =
-      differs-other _ _ (λ e. let S = U .open-at k h q in omega (arith, S .points, T .closed k h o, cell-direct (best rs (blockStart t k)) (best-good rs (blockStart t k) all)))
+      differs-other _ _ (λ e. let S = U .open-at k h q in omega (arith, S .owns .points, T .closed k h o, cell-direct (best rs (blockStart t k)) (best-good rs (blockStart t k) all)))
   first-cell k h true false o q =
-      differs-other _ _ (λ e. let S = T .open-at k h o in omega (arith, S .points, U .closed k h q, cell-direct (best vs (blockStart t k)) (best-good vs (blockStart t k) all')))
+      differs-other _ _ (λ e. let S = T .open-at k h o in omega (arith, S .owns .points, U .closed k h q, cell-direct (best vs (blockStart t k)) (best-good vs (blockStart t k) all')))
   first-cell k h true true o q = differs-same _ _ (sym (keeps k h o q))
 
   first-sum : differing (m .first) (n .first)
@@ -229,15 +229,15 @@ module _ (t : Prefix) (rs vs : List Route) (m n : Tables) (all : AllRoutes rs) (
           → sum blockSize (λ i. differ (cell x rs (blockStart t b + i)) (cell y vs (blockStart t b + i))) ≡ 0
       go true y o q =
           let S = T .open-at b h o in
-          absurd (free (S .number) (S .lent) (owner-before (S .number) (λ z. let w = sym (S .owner) ∙ z in omega arith) ∙ S .owner ∙ add-one b))
+          absurd (free (S .number) (S .owns .lent) (owner-before (S .number) (λ z. let w = sym (S .owns .owner) ∙ z in omega arith) ∙ S .owns .owner ∙ add-one b))
       go false true o q =
           let S = U .open-at b h q in
-          let l : S .number < length (m .owners) = rw (sym same-owners) at (S .lent) in
+          let l : S .number < length (m .owners) = rw (sym same-owners) at (S .owns .lent) in
           by-test (eqb? (getD (m .owners) (S .number) 0) 0)
-          (λ z. absurd (free (S .number) l (owner-after (S .number) z ∙ S .owner ∙ add-one b)))
+          (λ z. absurd (free (S .number) l (owner-after (S .number) z ∙ S .owns .owner ∙ add-one b)))
           (λ x.
           absurd (free (S .number) l (owner-before (S .number) x
-          ∙ sym (same-owner (S .number) l x (λ z. let w = sym (S .owner) ∙ z in omega arith)) ∙ S .owner ∙ add-one b)))
+          ∙ sym (same-owner (S .number) l x (λ z. let w = sym (S .owns .owner) ∙ z in omega arith)) ∙ S .owns .owner ∙ add-one b)))
       go false false o q = sum-none blockSize _ (λ i l. differ-same no-route no-route refl)
 
   long-sum : differing (m .long) (n .long) ≡ sum (blocks t) segment-price

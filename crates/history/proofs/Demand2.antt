@@ -84,13 +84,13 @@ module _ (t : Prefix) (rs : List Route) (m : Lent) (I : Inv t rs m) (a : ℕ) (c
           ≡ answerOf (best rs a)
       go true o =
           let S = I .tables .open-at (blockOf t a) here o in
-          let q = S .points in
+          let q = S .owns .points in
           let cell = getD (m .tables .first) (blockOf t a) 0 in
           let s : segmentOf cell ≡ S .number = omega arith in
           rw (
             passes (leb? pointerBit cell) (omega arith),
             s,
-            passes (ltb? (S .number) (length (m .tables .long) / blockSize)) (omega (arith, S .lent, I .tables .sized .longs)),
+            passes (ltb? (S .number) (length (m .tables .long) / blockSize)) (omega (arith, S .owns .lent, I .tables .sized .longs)),
             S .cells (a % blockSize) (omega arith),
             in-block,
           ) (verdict-of 32 (best rs a) good (at-most (best rs a) good))

@@ -24,9 +24,7 @@ use Rattle.tables.proofs.Filling.{filled-in, filled-out, length-filled}
 -- block k points to a segment that it owns, and that holds the cells of its addresses
 pub record Segment (t : Prefix) (C : ℕ → ℕ) (T : Tables) (k : ℕ) : Type 0 where
   pub number : ℕ
-  pub lent : number < length (T .owners)
-  pub points : getD (T .first) k 0 ≡ pointTo number
-  pub owner : getD (T .owners) number 0 ≡ k + 1
+  pub owns : Owns T k number
   pub cells : (i : ℕ) → i < blockSize → getD (T .long) (number * blockSize + i) 0 ≡ C (blockStart t k + i)
 
 -- segment s belongs to an open block, which points to it
@@ -52,7 +50,7 @@ module _ {t : Prefix} {O : ℕ → Bool} {C : ℕ → ℕ} {T : Tables} (H : Hol
   closed-cell h = go (O k) refl
     where
       go : (x : Bool) → O k ≡ x → x ≡ false
-      go true e = let S = H .open-at k inside e in absurd (omega (arith, S .points))
+      go true e = let S = H .open-at k inside e in absurd (omega (arith, S .owns .points))
       go false e = refl
 
   pub open-pointer : pointerBit ≤ getD (T .first) k 0 → O k ≡ true
@@ -89,7 +87,7 @@ retold {t} {O} {Q} {C} {D} {T} H o c = record {
   closed = λ k h q. H .closed k h (sym (o k h) ∙ q) ∙ sym (c (blockStart t k));
   open-at = λ k h q.
       let S = H .open-at k h (sym (o k h) ∙ q) in
-      record { number = S .number; lent = S .lent; points = S .points; owner = S .owner; cells = λ i j. S .cells i j ∙ sym (c (blockStart t k + i)) };
+      record { number = S .number; owns = S .owns; cells = λ i j. S .cells i j ∙ sym (c (blockStart t k + i)) };
   owned = λ s h n.
       let B = H .owned s h n in
       record { block = B .block; inside = B .inside; is-open = o (B .block) (B .inside) ∙ B .is-open; owner = B .owner; points = B .points };
@@ -112,12 +110,10 @@ module _ {t : Prefix} {O : ℕ → Bool} {C : ℕ → ℕ} {T : Tables} (H : Hol
   unfolding repainted
   segment-after k h S = record {
     number = S .number;
-    lent = S .lent;
-    points = pointer-stays k (S .number) h (S .points) ∙ S .points;
-    owner = S .owner;
+    owns = record { points = pointer-stays k (S .number) h (S .owns .points) ∙ S .owns .points; lent = S .owns .lent; owner = S .owns .owner };
     cells = λ i j.
-        getD-where _ _ (T .long) (S .number * blockSize + i) (in-long (H .sized) (S .number) i (S .lent) j)
-        ∙ rw (owned-in t p T (S .number) i j k (S .owner) (S .points), address-at t T (S .number) i j k (S .owner), S .cells i j);
+        getD-where _ _ (T .long) (S .number * blockSize + i) (in-long (H .sized) (S .number) i (S .owns .lent) j)
+        ∙ rw (owned-in t p T (S .number) i j (S .owns), address-at t p T (S .number) i j (S .owns), S .cells i j);
   }
 
   pub repaint-step : ((a : ℕ) → after a < pointerBit) → Holds t O after (repainted t p f T)
@@ -160,23 +156,19 @@ module _ {t : Prefix} {O Q : ℕ → Bool} {C : ℕ → ℕ} {T : Tables} (H : H
   other-segment : (k : ℕ) → ¬ (k ≡ b) → Segment t C T k → Segment t C (openedAt b s T) k
   unfolding openedAt
   other-segment k d S =
-      let n : ¬ (S .number ≡ s) = λ e. let z = sym (S .owner) ∙ ap (λ (x : ℕ). getD (T .owners) x 0) e ∙ vacant in omega arith in
+      let n : ¬ (S .number ≡ s) = λ e. let z = sym (S .owns .owner) ∙ ap (λ (x : ℕ). getD (T .owners) x 0) e ∙ vacant in omega arith in
       record {
         number = S .number;
-        lent = rw same-owners (S .lent);
-        points = getD-set-other (T .first) b k (pointTo s) 0 d ∙ S .points;
-        owner = getD-set-other (T .owners) s (S .number) (b + 1) 0 n ∙ S .owner;
+        owns = record { points = getD-set-other (T .first) b k (pointTo s) 0 d ∙ S .owns .points; lent = rw same-owners (S .owns .lent); owner = getD-set-other (T .owners) s (S .number) (b + 1) 0 n ∙ S .owns .owner };
         cells = λ i j.
-            filled-out s (getD (T .first) b 0) (T .long) (S .number) i j n (in-long (H .sized) (S .number) i (S .lent) j) ∙ S .cells i j;
+            filled-out s (getD (T .first) b 0) (T .long) (S .number) i j n ∙ S .cells i j;
       }
 
   mine : Segment t C (openedAt b s T) b
   unfolding openedAt
   mine = record {
     number = s;
-    lent = rw same-owners lent;
-    points = getD-set-same (T .first) b (pointTo s) 0 (omega (arith, H .sized .firsts));
-    owner = getD-set-same (T .owners) s (b + 1) 0 lent;
+    owns = record { points = getD-set-same (T .first) b (pointTo s) 0 (omega (arith, H .sized .firsts)); lent = rw same-owners lent; owner = getD-set-same (T .owners) s (b + 1) 0 lent };
     cells = λ i j.
         filled-in s (getD (T .first) b 0) (T .long) i j (in-long (H .sized) s i lent j) ∙ H .closed b inside was ∙ sym (one i j);
   }
@@ -213,12 +205,12 @@ module _ {t : Prefix} {O Q : ℕ → Bool} {C : ℕ → ℕ} {T : Tables} (H : H
     owned = λ n h z.
         by-eq n s
         (λ e. subst (Belongs t Q (openedAt b s T)) (sym e)
-        (record { block = b; inside = inside; is-open = now-open; owner = mine .owner; points = mine .points }))
+        (record { block = b; inside = inside; is-open = now-open; owner = mine .owns .owner; points = mine .owns .points }))
         (other-own n (rw same-owners at h) z);
     free = λ n h z i j.
-        let d : ¬ (n ≡ s) = λ e. let y = sym z ∙ ap (λ (x : ℕ). getD owners′ x 0) e ∙ mine .owner in omega arith in
+        let d : ¬ (n ≡ s) = λ e. let y = sym z ∙ ap (λ (x : ℕ). getD owners′ x 0) e ∙ mine .owns .owner in omega arith in
         let l : n < length (T .owners) = rw same-owners at h in
-        filled-out s (getD (T .first) b 0) (T .long) n i j d (in-long (H .sized) n i l j)
+        filled-out s (getD (T .first) b 0) (T .long) n i j d
         ∙ H .free n l (sym (getD-set-other (T .owners) s n (b + 1) 0 d) ∙ z) i j;
   }
 
@@ -235,13 +227,13 @@ module _ {t : Prefix} {O Q : ℕ → Bool} {C : ℕ → ℕ} {T : Tables} (H : H
   own = H .open-at b inside was
 
   same-number : own .number ≡ s
-  same-number = let e = sym (own .points) ∙ points in omega arith
+  same-number = let e = sym (own .owns .points) ∙ points in omega arith
 
   lent : s < length (T .owners)
-  lent = rw same-number at (own .lent)
+  lent = rw same-number at (own .owns .lent)
 
   owner : getD (T .owners) s 0 ≡ b + 1
-  owner = rw same-number at (own .owner)
+  owner = rw same-number at (own .owns .owner)
 
   fewer : length (set (T .owners) s 0) ≡ length (T .owners)
   fewer = length-set (T .owners) s 0
@@ -249,13 +241,11 @@ module _ {t : Prefix} {O Q : ℕ → Bool} {C : ℕ → ℕ} {T : Tables} (H : H
   still-open : (k : ℕ) → ¬ (k ≡ b) → Segment t C T k → Segment t C (closedAt b s cell T) k
   unfolding closedAt
   still-open k d S =
-      let n : ¬ (S .number ≡ s) = λ e. let z = sym (S .owner) ∙ ap (λ (x : ℕ). getD (T .owners) x 0) e ∙ owner in d (omega arith) in
+      let n : ¬ (S .number ≡ s) = λ e. let z = sym (S .owns .owner) ∙ ap (λ (x : ℕ). getD (T .owners) x 0) e ∙ owner in d (omega arith) in
       record {
         number = S .number;
-        lent = rw fewer (S .lent);
-        points = getD-set-other (T .first) b k cell 0 d ∙ S .points;
-        owner = getD-set-other (T .owners) s (S .number) 0 0 n ∙ S .owner;
-        cells = λ i j. filled-out s 0 (T .long) (S .number) i j n (in-long (H .sized) (S .number) i (S .lent) j) ∙ S .cells i j;
+        owns = record { points = getD-set-other (T .first) b k cell 0 d ∙ S .owns .points; lent = rw fewer (S .owns .lent); owner = getD-set-other (T .owners) s (S .number) 0 0 n ∙ S .owns .owner };
+        cells = λ i j. filled-out s 0 (T .long) (S .number) i j n ∙ S .cells i j;
       }
 
   still-own : (n : ℕ) → n < length (T .owners) → ¬ (getD (set (T .owners) s 0) n 0 ≡ 0) → Belongs t Q (closedAt b s cell T) n
@@ -295,5 +285,5 @@ module _ {t : Prefix} {O Q : ℕ → Bool} {C : ℕ → ℕ} {T : Tables} (H : H
         let l : n < length (T .owners) = rw fewer at h in
         by-eq n s
         (λ e. rw e (filled-in s 0 (T .long) i j (in-long (H .sized) s i lent j)))
-        (λ d. filled-out s 0 (T .long) n i j d (in-long (H .sized) n i l j) ∙ H .free n l (sym (getD-set-other (T .owners) s n 0 0 d) ∙ z) i j);
+        (λ d. filled-out s 0 (T .long) n i j d ∙ H .free n l (sym (getD-set-other (T .owners) s n 0 0 d) ∙ z) i j);
   }

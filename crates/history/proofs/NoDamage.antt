@@ -11,10 +11,9 @@ use Rattle.ground.proofs.Tests.{passes, says}
 use Rattle.updates.specs.Effects.{effect}
 use Rattle.prefix.specs.declared.Prefix.{Prefix}
 use Rattle.prefix.specs.Prefixes.{encloses, WellFormed, Encloses}
-use Rattle.prefix.specs.Geometry.{blocks, blockStart, touched, width}
-use Rattle.prefix.specs.Routes.{Route, Match, no-route, via, best, Change, isChange, named, puts, takes}
-use Rattle.prefix.proofs.Prefixes.{wellFormed?, encloses?}
-use Rattle.prefix.proofs.Best.{isRoute?}
+use Rattle.prefix.specs.Geometry.{blocks, blockStart, width}
+use Rattle.prefix.specs.Routes.{Route, Match, no-route, via, best, Change, isChange, named}
+use Rattle.prefix.proofs.Prefixes.{encloses?}
 use Rattle.prefix.proofs.Blocks.{closed-short}
 use Rattle.cells.specs.Cells.{segmentOf, cellOf}
 use Rattle.rules.specs.Rules.{routes, isLive, Formed}
@@ -50,11 +49,11 @@ module _ (t : Prefix) (rs : List Route) (m : Lent) (I : Inv t rs m) where
     pointer = λ p.
         let o = open-pointer (I .tables) l p in
         let S = I .tables .open-at k l o in
-        let q = S .points in
+        let q = S .owns .points in
         let s : S .number ≡ segmentOf (getD (m .tables .first) k 0) = omega arith in (
           subst (SegmentSound (m .tables) k) s (record {
-            lent = S .lent;
-            owned = S .owner;
+            lent = S .owns .lent;
+            owned = S .owns .owner;
             clean = λ i j. subst (Clean 32) (sym (S .cells i j)) (clean-cell 32 (best rs (blockStart t k + i)) (good _) (good-short _ (good _)));
           }),
           o,
@@ -71,16 +70,10 @@ module _ (t : Prefix) (rs : List Route) (m : Lent) (I : Inv t rs m) where
   not-damaged p w e =
       passes (undamaged? t p m) (record {
         rules = subst (Formed t) (sym (I .words)) (words-formed t (length (m .rules)) rs (I .list .all) (I .list .order) (I .list .inside));
-        blocks = λ i j.
-            subst (λ (x : List Route). BlockSound t x (m .tables) (touched t p .from + i)) (sym (live-routes I))
-            (block-sound (touched t p .from + i) (let l = blocks-inside (territory I) w e in omega arith));
+        blocks = λ k low high.
+            subst (λ (x : List Route). BlockSound t x (m .tables) k) (sym (live-routes I))
+            (block-sound k (let l = blocks-inside (territory I) w e in omega arith));
       })
-
--- the prefix of a change that refusal 2 lets pass is well formed
-change-formed : (c : Change) → isChange c ≡ true → WellFormed (named c)
-unfolding isChange
-change-formed (puts r) e = says (isRoute? r) e .formed
-change-formed (takes p) e = says (wellFormed? p) e
 
 -- ---- the numbers that a call can answer
 
@@ -132,5 +125,5 @@ no-damage t m l h c =
     let I = inv-history t m l h in
     answers-no-4 _ n (effect t (change c) n)
     (tested-not-4 t (change c) n (own t c n)
-    (λ x y. not-damaged t (live t m h) n I (named (change c)) (change-formed (change c) x) (says (encloses? t (named (change c))) y))
+    (λ x y. not-damaged t (live t m h) n I (named (change c)) (named-formed (change c) x) (says (encloses? t (named (change c))) y))
     (own-not-4 t c n))

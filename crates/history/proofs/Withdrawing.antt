@@ -68,7 +68,7 @@ module _ (t p : Prefix) (rs : List Route) (T : Tables) (H : TablesOf t rs T) (h 
 
   -- the pointer of an open block names its segment
   own-segment : {C : ℕ → ℕ} {U : Tables} → Holds t O C U → O b ≡ true → getD (U .first) b 0 ≡ pointTo (segmentOf (getD (U .first) b 0))
-  own-segment K o = let q = K .open-at b here o .points in omega arith
+  own-segment K o = let q = K .open-at b here o .owns .points in omega arith
 
   pub withdrawn-tables : TablesOf t left (closedFor t p left before)
   unfolding closedFor
@@ -108,7 +108,7 @@ module _ (t p : Prefix) (rs : List Route) (T : Tables) (H : TablesOf t rs T) (h 
       → getD (closedFor t p left before .first) k 0 ≡ getD (T .first) k 0
   unfolding closedFor closedAt
   withdrawn-keeps k l o q =
-      go (closes t p left) (closes? t p left) ∙ pointer-stays H p (unpaintCell (p .length) left) k (H .open-at k l o .number) l (H .open-at k l o .points)
+      go (closes t p left) (closes? t p left) ∙ pointer-stays H p (unpaintCell (p .length) left) k (H .open-at k l o .number) l (H .open-at k l o .owns .points)
     where
       go : (x : Bool) → Decides ((width < p .length) × ¬ (Q b ≡ true)) x
           → getD (cond x (closedAt b (segmentOf (getD (before .first) b 0)) (cellOf (best left (blockStart t b))) before) before .first) k 0
