@@ -13,7 +13,8 @@ use Rattle.prefix.specs.declared.Prefix.{Prefix}
 use Rattle.prefix.specs.Prefixes.{Contains}
 use Rattle.prefix.proofs.Prefixes.{contains?, own}
 use Rattle.cells.specs.Cells.{pointerBit}
-use Rattle.lookup.specs.Lookup.{refused, standingOf, verdictOf, saysOf, lookUp, packed}
+use Rattle.lookup.specs.Lookup.{refused, verdictOf, saysOf, lookUp, packed}
+use Rattle.lookup.specs.inner.Standing.{standingOf}
 use Rattle.prefix.specs.Geometry.{blockOf}
 use Rattle.cells.proofs.Lending.{LentToRead, lentToRead?}
 use Rattle.lookup.proofs.Reading.{stands, goes-on}

@@ -9,7 +9,7 @@ use Rattle.prefix.specs.declared.Prefix.{Prefix}
 use Rattle.prefix.specs.Prefixes.{contains}
 use Rattle.cells.specs.Cells.{isPointer, segmentOf}
 use Rattle.cells.specs.Memory.{lentToRead}
-use Rattle.prefix.specs.Geometry.{blockOf}
+use Rattle.prefix.specs.Geometry.{blockSize, blockOf}
 
 -- the cell of the first table for the block that holds the address
 abbrev pub firstCell : List ℕ → Prefix → ℕ → ℕ

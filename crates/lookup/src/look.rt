@@ -2,7 +2,8 @@
 ghost use mathlib.Core.Path.{_≡_};
 ghost use Prim.Native.Nat.{_<_};
 ghost use Rattle.prefix.specs.Geometry.{blockSize};
-ghost use Rattle.lookup.specs.Lookup.{answerRadix, refused, packed, unpackedOf, standingOf, directOrDamage, verdictOf, saysOf, lookUp};
+ghost use Rattle.lookup.specs.Lookup.{answerRadix, refused, packed, unpackedOf, directOrDamage, verdictOf, saysOf, lookUp};
+ghost use Rattle.lookup.specs.inner.Standing.{standingOf};
 use cells::cell::Cell;
 use cells::sizes::Most;
 use prefix::Prefix;

@@ -3,8 +3,8 @@ use mathlib.Core.Path.{sym, ap, _∙_}
 use native.Mathlib.Omega.{arith}
 use Rattle.ground.proofs.Tests.{says, denies, cond-on, cond-off}
 use Rattle.cells.specs.Cells.{hopOf}
-use Rattle.lookup.specs.Lookup.{refused, found, packed}
 use Rattle.cells.proofs.Direct.{isDirect?}
+use Rattle.lookup.specs.Lookup.{refused, found, packed}
 use borrow.Author.Needs.{needs}
 use Rattle.lookup.proofs.look.direct_or_damage.Statement.{statement}
 use Rattle.lookup.proofs.look.direct_or_damage.Tie as tie
@@ -22,16 +22,17 @@ returns c =
     let e = cond-on (found (hopOf (s .cell))) (refused 4) direct (says direct (sym (c .before .before .is-direct .ensures) ∙ c .before .if1 .taken)) in
     omega (arith, ap packed e)
 
-mul-result : tie.Need-mul-result
-mul-result c = search needs
+refusal-requires : tie.Need-refusal-requires
+refusal-requires c κs = search needs
 
 returns-2 : tie.Need-returns-2
 returns-2 c =
-    let s = c .before .before .args in
+    let s = c .before .before .before .args in
     let direct = isDirect? (s .longest) (s .cell) in
-    sym (ap packed (cond-off _ _ direct (denies direct (sym (c .before .is-direct .ensures) ∙ c .if1 .left))))
+    c .refusal .ensures
+    ∙ sym (ap packed (cond-off _ _ direct (denies direct (sym (c .before .before .is-direct .ensures) ∙ c .before .if1 .left))))
 
 pub direct-or-damage-spec : {M : Type 1} → statement M
 direct-or-damage-spec =
     tie.close
-    (tie.spec is-direct-requires hop-requires returns mul-result returns-2)
+    (tie.spec is-direct-requires hop-requires returns refusal-requires returns-2)
