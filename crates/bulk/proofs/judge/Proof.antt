@@ -2,7 +2,7 @@
 use mathlib.Core.Path.{sym, _∙_}
 use native.Mathlib.Omega.{arith}
 use Rattle.ground.proofs.Tests.{ltb?, cond-on, cond-off}
-use Rattle.bulk.specs.Passes.{blockFrom, judged}
+use Rattle.bulk.specs.inner.Passes.{blockFrom, judged}
 use borrow.Author.Needs.{needs}
 use Rattle.bulk.proofs.judge.Statement.{statement}
 use Rattle.bulk.proofs.judge.Tie as tie
@@ -13,9 +13,6 @@ said-or-pointer-requires c κs = search needs
 block-requires : tie.Need-block-requires
 block-requires c κs = search needs
 
-mul-result : tie.Need-mul-result
-mul-result c = search needs
-
 returns : tie.Need-returns
 unfolding judged
 returns c =
@@ -23,12 +20,15 @@ returns c =
     c .before .before .said-or-pointer .ensures
     ∙ sym (cond-on _ _ (ltb? (blockFrom (s .base) (s .address)) (s .blocks)) (omega arith))
 
+refusal-requires : tie.Need-refusal-requires
+refusal-requires c κs = search needs
+
 returns-2 : tie.Need-returns-2
 unfolding judged
 returns-2 c =
-    let s = c .before .before .before .args in
-    sym (cond-off _ _ (ltb? (blockFrom (s .base) (s .address)) (s .blocks)) (λ l. omega arith))
+    let s = c .before .before .before .before .args in
+    c .refusal .ensures ∙ sym (cond-off _ _ (ltb? (blockFrom (s .base) (s .address)) (s .blocks)) (λ l. omega arith))
 
 pub judge-spec : {M : Type 1} → statement M
 judge-spec =
-    tie.close (tie.spec said-or-pointer-requires block-requires mul-result returns returns-2)
+    tie.close (tie.spec said-or-pointer-requires block-requires refusal-requires returns returns-2)
