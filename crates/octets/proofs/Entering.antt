@@ -1,20 +1,17 @@
 -- What booking by an answer of look up answers and leaves, one law for each way out; and what an answer of look up names. Assumes nothing.
 use mathlib.Core.Path.{_≡_, refl, sym, ap, _∙_}
-use mathlib.Core.Bool.{Bool, true, false, cond, _&&_}
+use mathlib.Core.Bool.{Bool, cond, _&&_}
 use mathlib.Core.List.{List, _++_, append-nil}
-use Prim.Native.Nat.{ℕ, _+_, _/_, _%_, _≤_, _<_}
+use Prim.Native.Nat.{ℕ, _+_, _≤_, _<_}
 use native.Mathlib.Omega.{arith}
-use lib.Dec.{ltb, eqb, leb, lit<}
+use lib.Dec.{eqb}
 use lib.ListN.{length, getD, set, drop, replicate, length-set, drop-of-length-le}
 use Rattle.ground.proofs.Tests.{Decides, holds, fails, leb?, eqb?, and?, iff?, stops, cond-on, cond-off}
 use Rattle.ground.proofs.Cases.{by-eq}
 use Rattle.prefix.specs.declared.Prefix.{Prefix}
-use Rattle.prefix.specs.Prefixes.{contains}
 use Rattle.lookup.specs.declared.look.Answer.{Answer}
-use Rattle.cells.specs.Cells.{empty, hopOf, isPointer, segmentOf}
-use Rattle.lookup.specs.Lookup.{refused as no-hop, found, verdictOf, saysOf, lookUp}
-use Rattle.cells.specs.Memory.{lentToRead}
-use Rattle.cells.proofs.Direct.{Direct, isDirect?}
+use Rattle.lookup.specs.Lookup.{lookUp}
+use Rattle.lookup.proofs.Answers.{Told}
 use Rattle.octets.specs.Words.{wordCount, most}
 use Rattle.octets.specs.Booking.{Outcome, refused, clearOctets, addTo, refusalOf, enter, book}
 use Rattle.octets.specs.Bookings.{names}
@@ -63,40 +60,6 @@ module _ (first long : List ℕ) (t : Prefix) (a amount : ℕ) (words : List ℕ
   booked l e h = h ∙ ap (λ (x : Answer). enter x amount words) e ∙ sym (cond-on _ _ (eqb? (length words) wordCount) l)
 
 -- ---- what an answer of look up names
-
--- a refusal has no hop, and what is no refusal has one
-pub record Told (r : Answer) : Type 0 where
-  pub refusal : (r .code ≡ 0 → ⊥) → r .hop ≡ 0
-  pub route : r .code ≡ 0 → 0 < r .hop
-
-told-refused : (code : ℕ) → 0 < code → Told (no-hop code)
-told-refused code h = record { refusal = λ n. refl; route = λ e. absurd (omega arith) }
-
-told-cond : (t : Bool) {x y : Answer} → Told x → Told y → Told (cond t x y)
-told-cond true p q = p
-told-cond false p q = q
-
-told-verdict : (longest cell : ℕ) → Told (verdictOf longest cell)
-unfolding verdictOf
-told-verdict longest cell = told-cond (eqb cell empty) (told-refused 8 (lit< tt)) (go (isDirect? longest cell))
-  where
-    go : {t : Bool} → Decides (Direct longest cell) t → Told (cond t (found (hopOf cell)) (no-hop 4))
-    go (holds d) = record { refusal = λ n. absurd (n refl); route = λ e. d .some-hop }
-    go (fails n) = told-refused 4 (lit< tt)
-
-told-says : (long : List ℕ) (low cell : ℕ) → Told (saysOf long low cell)
-unfolding saysOf
-told-says long low cell =
-    told-cond (isPointer cell)
-    (told-cond (ltb (segmentOf cell) (length long / 256)) (told-verdict 32 _) (told-refused 4 (lit< tt)))
-    (told-verdict 24 cell)
-
-pub told-look : (first long : List ℕ) (t : Prefix) (a : ℕ) → Told (lookUp first long t a)
-unfolding lookUp
-told-look first long t a =
-    told-cond (lentToRead (length first) (length long) t)
-    (told-cond (contains t a) (told-says long (a % 256) _) (told-refused 3 (lit< tt)))
-    (told-refused 1 (lit< tt))
 
 -- a code that refuses no record is 0 or 8
 pub no-refusal : {C : Type 0} (code : ℕ) → refusalOf code ≡ 0 → (code ≡ 0 → C) → (code ≡ 8 → C) → C

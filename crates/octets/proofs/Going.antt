@@ -3,7 +3,7 @@
 use mathlib.Core.Path.{_≡_, refl, sym, ap, ap₂, subst, _∙_}
 use mathlib.Core.Bool.{Bool, cond, _&&_}
 use mathlib.Core.List.{List, [], _∷_, _++_, map, append-nil}
-use Prim.Native.Nat.{ℕ, zero, suc, _+_, _/_, _%_, _≤_, _<_}
+use Prim.Native.Nat.{ℕ, zero, suc, _+_, _≤_, _<_}
 use native.Mathlib.Nat.{not-suc-le-zero, le-of-suc-le-suc}
 use native.Mathlib.Numerals.{add-one}
 use native.Mathlib.Omega.{arith}
@@ -14,13 +14,14 @@ use Rattle.ground.proofs.Tests.{Decides, holds, fails, eqb?, and?, cond-on, con
 use Rattle.prefix.specs.declared.Prefix.{Prefix}
 use Rattle.lookup.specs.declared.look.Answer.{Answer}
 use Rattle.cells.specs.Memory.{lentToRead}
-use Rattle.lookup.specs.Lookup.{lookUp, packed}
-use Rattle.cells.proofs.Lending.{LentToRead, lentToRead?}
-use Rattle.lookup.proofs.Answers.{small-look, unpacked}
+use Rattle.lookup.specs.Lookup.{unpackedOf}
+use Rattle.lookup.proofs.Answers.{told-look, unpacked}
+use Rattle.bulk.proofs.Answering.{Asked, asked?}
 use Rattle.bulk.specs.All.{answerOf, allOf, Outcome as All}
 use Rattle.octets.specs.Words.{wordCount}
 use Rattle.octets.specs.Booking.{Outcome, enter, book}
-use Rattle.octets.specs.Many.{Booked, each, bookEach, enterNumber, enterEach, bookAll}
+use Rattle.octets.specs.Many.{Booked, each, bookEach, bookAll}
+use Rattle.octets.specs.inner.Numbers.{HopsFit, enterNumber, enterEach}
 use Rattle.octets.proofs.Entering.{did-enter, did-long}
 
 -- ---- the loop
@@ -87,8 +88,7 @@ module _ (first long : List ℕ) (t : Prefix) where
   one-same : (a n : ℕ) (words : List ℕ) → length words ≡ wordCount → enterNumber (answerOf first long t a) n words ≡ book first long t a n words
   unfolding book
   one-same a n words l =
-      let r = lookUp first long t a in
-      ap (λ (x : Answer). enter x n words) (unpacked r (packed r) (small-look first long t a) refl)
+      ap (λ (x : Answer). enter x n words) (unpacked (told-look first long t a) refl)
       ∙ sym (cond-on _ _ (eqb? (length words) wordCount) l)
 
   pub by-answers : (xs ns words : List ℕ) → length words ≡ wordCount
@@ -107,25 +107,21 @@ module _ (first long : List ℕ) (t : Prefix) where
 
 -- the hop in look up's number is small
 pub hops-small : (first long : List ℕ) (t : Prefix) (xs ys : List ℕ) → ys ≡ map (answerOf first long t) xs
-    → (i : ℕ) → i < length ys → unpackedOf (getD ys i 0) .hop ≤ 32767
-hops-small first long t xs ys e i h = subst (λ (l : List ℕ). i < length l → unpackedOf (getD l i 0) .hop ≤ 32767) (sym e) (go xs i) h
+    → HopsFit ys
+hops-small first long t xs ys e = subst HopsFit (sym e) (go xs)
   where
-    go : (l : List ℕ) (k : ℕ) → k < length (map (answerOf first long t) l) → unpackedOf (getD (map (answerOf first long t) l) k 0) .hop ≤ 32767
+    go : (l : List ℕ) → HopsFit (map (answerOf first long t) l)
     go [] k m = absurd (not-suc-le-zero m)
-    go (x ∷ l) zero m = omega (arith, small-look first long t x .hop)
+    go (x ∷ l) zero m = omega (arith, told-look first long t x .hop)
     go (x ∷ l) (suc k) m = go l k (le-of-suc-le-suc m)
 
 module _ (first long : List ℕ) (t : Prefix) (addresses codes : List ℕ) where
-  -- what look up of all addresses asks
   abbrev Answers : Type 0
-  Answers = LentToRead (length first) (length long) t × (length addresses ≡ length codes)
-
-  answers? : Decides Answers (lentToRead (length first) (length long) t && eqb (length addresses) (length codes))
-  answers? = and? (lentToRead? (length first) (length long) t) (eqb? (length addresses) (length codes))
+  Answers = Asked first long t addresses codes
 
   pub answered : {o : All} → o ≡ allOf first long t addresses codes → o .code ≡ 0 → Answers × (o .answers ≡ map (answerOf first long t) addresses)
   unfolding allOf
-  answered {o} e z = go answers? e
+  answered {o} e z = go (asked? first long t addresses codes) e
     where
       go : {x : Bool} → Decides Answers x
           → o ≡ cond x (record { code = 0; answers = map (answerOf first long t) addresses }) (record { code = 1; answers = codes })
@@ -135,7 +131,7 @@ module _ (first long : List ℕ) (t : Prefix) (addresses codes : List ℕ) where
 
   pub not-answered : {o : All} → o ≡ allOf first long t addresses codes → (o .code ≡ 0 → ⊥) → (Answers → ⊥) × (o .answers ≡ codes)
   unfolding allOf
-  not-answered {o} e m = go answers? e
+  not-answered {o} e m = go (asked? first long t addresses codes) e
     where
       go : {x : Bool} → Decides Answers x
           → o ≡ cond x (record { code = 0; answers = map (answerOf first long t) addresses }) (record { code = 1; answers = codes })
@@ -146,11 +142,11 @@ module _ (first long : List ℕ) (t : Prefix) (addresses codes : List ℕ) where
 module _ (first long : List ℕ) (t : Prefix) (addresses amounts codes words : List ℕ) where
   -- what the call asks
   abbrev Asks : Type 0
-  Asks = ((length words ≡ wordCount) × (length amounts ≡ length addresses)) × Answers first long t addresses codes
+  Asks = ((length words ≡ wordCount) × (length amounts ≡ length addresses)) × Asked first long t addresses codes
 
   asks? : Decides Asks (eqb (length words) wordCount && eqb (length amounts) (length addresses)
       && (lentToRead (length first) (length long) t && eqb (length addresses) (length codes)))
-  asks? = and? (and? (eqb? (length words) wordCount) (eqb? (length amounts) (length addresses))) (answers? first long t addresses codes)
+  asks? = and? (and? (eqb? (length words) wordCount) (eqb? (length amounts) (length addresses))) (asked? first long t addresses codes)
 
   pub refused-whole : (Asks → ⊥) → {cs : List ℕ} → cs ≡ codes
       → record { code = 1; words = words; codes = cs } ≡ bookAll first long t addresses amounts codes words

@@ -4,7 +4,7 @@ use mathlib.Core.List.{List}
 use Prim.Native.Nat.{ℕ}
 use native.Mathlib.Omega.{arith}
 use denote.Ref.{now}
-use Rattle.octets.specs.Many.{enterEach}
+use Rattle.octets.specs.inner.Numbers.{enterEach}
 use Rattle.octets.proofs.Going.{hops-small, answered, not-answered, refused-whole, booked-each}
 use borrow.Author.Needs.{needs}
 use Rattle.octets.proofs.book_all.Statement.{statement}
