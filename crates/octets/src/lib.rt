@@ -106,7 +106,8 @@ pub fn book_all(
     codes: &mut [u32],
 ) -> u32
     ensures { λ r. ⌜ record { code = r; words = now (octets .exit); codes = now (codes .exit) }
-        ≡ bookAll (now (first .entry)) (now (long .entry)) territory (now (addresses .entry)) (now (amounts .entry)) (now (codes .entry)) (now (octets .entry)) ⌝ }
+        ≡ bookAll (now (first .entry)) (now (long .entry)) territory (now (addresses .entry)) (now (amounts .entry))
+        (now (codes .entry)) (now (octets .entry)) ⌝ }
 {
     if octets.len() != Words::COUNT {
         return 1;
