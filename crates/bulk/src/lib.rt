@@ -45,7 +45,7 @@ fn judge(base: u32, blocks: u32, address: u32, cell: u32) -> u32
     if block(base, address) < blocks {
         number
     } else {
-        Answer::refusal(3)
+        Answer::OUTSIDE
     }
 }
 

@@ -1,22 +1,20 @@
 -- What the number of show says of the tables, and the part that is shown, one law for each case. Assumes nothing.
-use mathlib.Core.Path.{_≡_, sym, ap, ap₂, _∙_}
-use mathlib.Core.Bool.{Bool, cond, _&&_}
+use mathlib.Core.Path.{_≡_, refl, sym, ap, ap₂, _∙_}
+use mathlib.Core.Bool.{_&&_}
 use mathlib.Core.List.{List, []}
 use Prim.Native.Nat.{ℕ, _+_, _-_, _*_, _/_, _≤_, _<_}
 use native.Mathlib.Nat.{zero-add}
 use native.Mathlib.Omega.{arith}
 use lib.Dec.{leb}
 use lib.ListN.{length}
-use Rattle.ground.proofs.Tests.{Decides, holds, fails, leb?, eqb?, and?, iff?, cond-on, cond-off}
-use Rattle.ground.proofs.Cases.{by-lt}
+use Rattle.ground.proofs.Tests.{Decides, leb?, eqb?, and?, iff?, cond-on, cond-off}
+use Rattle.ground.proofs.Cases.{by-lt, by-eq}
 use Rattle.prefix.specs.declared.Prefix.{Prefix}
-use Rattle.prefix.specs.Prefixes.{Contains}
-use Rattle.prefix.proofs.Prefixes.{contains?}
 use Rattle.cells.specs.Cells.{pointerBit, isPointer, segmentOf}
 use Rattle.prefix.specs.Geometry.{blockSize, blockOf}
+use Rattle.lookup.specs.inner.Standing.{standingOf}
 use Rattle.lookup.specs.Show.{Run, part, firstCell, showCode, shown}
-use Rattle.cells.proofs.Lending.{LentToRead, lentToRead?}
-use Rattle.lookup.proofs.Reading.{Stands, goes-on}
+use Rattle.lookup.proofs.Reading.{Stands, stands, goes-on, stops-at}
 
 -- the first cell is a pointer to a segment that is not lent
 pub record Astray (first long : List ℕ) (t : Prefix) (a : ℕ) : Type 0 where
@@ -35,20 +33,6 @@ module _ (first long : List ℕ) (t : Prefix) (a : ℕ) where
       (λ h. record { pointer = h .0; not-lent = h .1 })
       (λ s. (s .pointer, s .not-lent))
 
-  pub shows : showCode first long t a ≡ 0 → Shows first long t a
-  unfolding showCode
-  shows = go (lentToRead? (length first) (length long) t) (contains? t a) astray?
-    where
-      number : Bool → Bool → Bool → ℕ
-      number x y z = cond x (cond y (cond z 4 0) 3) 1
-
-      go : {x y z : Bool} → Decides (LentToRead (length first) (length long) t) x → Decides (Contains t a) y → Decides (Astray first long t a) z
-          → number x y z ≡ 0 → Shows first long t a
-      go (holds l) (holds c) (fails n) e = record { stands = record { lent = l; inside = c }; lent = n }
-      go (holds l) (holds c) (holds s) e = absurd (omega arith)
-      go (holds l) (fails n) d e = absurd (omega arith)
-      go (fails n) c d e = absurd (omega arith)
-
   -- the number, by whether the first cell points astray
   pub refuses : Stands (length first) (length long) t a → Astray first long t a → 4 ≡ showCode first long t a
   unfolding showCode
@@ -57,6 +41,14 @@ module _ (first long : List ℕ) (t : Prefix) (a : ℕ) where
   pub accepts : Stands (length first) (length long) t a → (Astray first long t a → ⊥) → 0 ≡ showCode first long t a
   unfolding showCode
   accepts s n = sym (cond-off 4 0 astray? n) ∙ goes-on (λ n. n) _ _ _ _ _ s
+
+  pub shows : showCode first long t a ≡ 0 → Shows first long t a
+  unfolding showCode
+  shows z =
+      let read =
+      by-eq (standingOf (length first) (length long) t a) 0 (stands refl)
+      (λ n. absurd (n (stops-at (λ k. k) (length first) (length long) t a _ _ refl n ∙ z))) in
+      record { stands = read; lent = λ s. omega (arith, z, refuses read s) }
 
 -- a pointer's segment is lent
 pub segment-lent : {first long : List ℕ} {t : Prefix} {a : ℕ} → Shows first long t a → pointerBit ≤ firstCell first t a

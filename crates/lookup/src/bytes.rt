@@ -42,7 +42,7 @@ fn says_bytes(long: &[u8], low: usize, cell: u32) -> u32
     }
     let segment = Cell::segment(cell);
     if long.len() / SEGMENT <= segment {
-        return Answer::refusal(4);
+        return Answer::DAMAGE;
     }
     verdict(word(long, segment * Block::CELLS + low), 32)
 }
@@ -53,10 +53,10 @@ pub fn look_up_bytes(first: &[u8], long: &[u8], territory: Prefix, address: u32)
     ensures { λ r. ⌜ r ≡ lookUpBytes (now (first .entry)) (now (long .entry)) territory address ⌝ }
 {
     if first.len() % 4 != 0 {
-        return Answer::refusal(1);
+        return Answer::NOT_LENT;
     }
     if long.len() % 4 != 0 {
-        return Answer::refusal(1);
+        return Answer::NOT_LENT;
     }
     let code = standing(first.len() / 4, long.len() / 4, territory, address);
     if code != 0 {

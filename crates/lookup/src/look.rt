@@ -21,8 +21,16 @@ pub struct Answer {
 // An answer as the one number code * RADIX + hop: no other file knows how it is made.
 impl Answer {
     const RADIX: u32 = 65536;
+    // Refusal 1: what is lent. 3: an address outside. 4: damage. 8: no route.
+    pub const NOT_LENT: u32 = Answer::RADIX;
 
-    // A refusal.
+    pub const OUTSIDE: u32 = 3 * Answer::RADIX;
+
+    pub const DAMAGE: u32 = 4 * Answer::RADIX;
+
+    pub const NO_ROUTE: u32 = 8 * Answer::RADIX;
+
+    // Any refusal.
     pub fn refusal(code: u32) -> u32
         requires { ⌜ code < answerRadix ⌝ }
         ensures { λ r. ⌜ r ≡ packed (refused code) ⌝ }
@@ -75,7 +83,7 @@ fn direct_or_damage(cell: u32, longest: u32) -> u32
     if Cell::is_direct(cell, longest) {
         return Cell::hop(cell);
     }
-    Answer::refusal(4)
+    Answer::DAMAGE
 }
 
 // What a deciding cell says, as one number. Whether it is 0 is asked last, so that the answer is selected and not jumped to: no
@@ -85,7 +93,7 @@ pub fn verdict(cell: u32, longest: u32) -> u32
 {
     let number = direct_or_damage(cell, longest);
     if cell == Cell::EMPTY {
-        Answer::refusal(8)
+        Answer::NO_ROUTE
     } else {
         number
     }
@@ -101,7 +109,7 @@ pub fn says(long: &[u32], low: usize, cell: u32) -> u32
     }
     let segment = Cell::segment(cell);
     if long.len() / Block::CELLS <= segment {
-        return Answer::refusal(4);
+        return Answer::DAMAGE;
     }
     verdict(long[segment * Block::CELLS + low], 32)
 }

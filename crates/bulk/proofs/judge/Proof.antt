@@ -20,15 +20,12 @@ returns c =
     c .before .before .said-or-pointer .ensures
     ∙ sym (cond-on _ _ (ltb? (blockFrom (s .base) (s .address)) (s .blocks)) (omega arith))
 
-refusal-requires : tie.Need-refusal-requires
-refusal-requires c κs = search needs
-
 returns-2 : tie.Need-returns-2
 unfolding judged
 returns-2 c =
-    let s = c .before .before .before .before .args in
-    c .refusal .ensures ∙ sym (cond-off _ _ (ltb? (blockFrom (s .base) (s .address)) (s .blocks)) (λ l. omega arith))
+    let s = c .before .before .before .args in
+    sym (cond-off _ _ (ltb? (blockFrom (s .base) (s .address)) (s .blocks)) (λ l. omega arith))
 
 pub judge-spec : {M : Type 1} → statement M
 judge-spec =
-    tie.close (tie.spec said-or-pointer-requires block-requires refusal-requires returns returns-2)
+    tie.close (tie.spec said-or-pointer-requires block-requires returns returns-2)

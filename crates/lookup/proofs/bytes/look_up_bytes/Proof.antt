@@ -13,27 +13,19 @@ use borrow.Author.Needs.{needs}
 use Rattle.lookup.proofs.bytes.look_up_bytes.Statement.{statement}
 use Rattle.lookup.proofs.bytes.look_up_bytes.Tie as tie
 
-refusal-requires : tie.Need-refusal-requires
-refusal-requires c κs = search needs
-
 returns : tie.Need-returns
 returns c =
-    let s = c .before .before .before .before .args in
-    c .refusal .ensures ∙ not-whole (now (s .first)) (now (s .long)) (s .territory) (s .address) (λ h. c .before .if1 .taken (h .0))
-
-refusal-requires-2 : tie.Need-refusal-requires-2
-refusal-requires-2 c κs = search needs
+    let s = c .before .before .before .args in not-whole (now (s .first)) (now (s .long)) (s .territory) (s .address) (λ h. c .if1 .taken (h .0))
 
 returns-2 : tie.Need-returns-2
 returns-2 c =
-    let s = c .before .before .before .before .before .args in
-    c .refusal2 .ensures ∙ not-whole (now (s .first)) (now (s .long)) (s .territory) (s .address) (λ h. c .before .if2 .taken (h .1))
+    let s = c .before .before .before .before .args in not-whole (now (s .first)) (now (s .long)) (s .territory) (s .address) (λ h. c .if2 .taken (h .1))
 
 standing-requires : tie.Need-standing-requires
 standing-requires c κs = search needs
 
-refusal-requires-3 : tie.Need-refusal-requires-3
-refusal-requires-3 c κs =
+refusal-requires : tie.Need-refusal-requires
+refusal-requires c κs =
     let s = c .before .before .before .before .before .before .args in
     omega (arith, c .before .standing .ensures, small-standing (length (now (s .first)) / 4) (length (now (s .long)) / 4) (s .territory) (s .address))
 
@@ -41,7 +33,7 @@ returns-3 : tie.Need-returns-3
 unfolding lookUp
 returns-3 c =
     let s = c .before .before .before .before .before .before .before .args in
-    c .refusal3 .ensures
+    c .refusal .ensures
     ∙ ap packed (stops-at refused _ _ _ _ _ _
     (c .before .before .standing .ensures ∙ standing-words (now (s .first)) (now (s .long)) (s .territory) (s .address)) (c .before .if3 .taken))
     ∙ whole (now (s .first)) (now (s .long)) (s .territory) (s .address) (omega arith) (omega arith)
@@ -82,12 +74,10 @@ pub look-up-bytes-spec : {M : Type 1} → statement M
 look-up-bytes-spec =
     tie.close
     (tie.spec
-    refusal-requires
     returns
-    refusal-requires-2
     returns-2
     standing-requires
-    refusal-requires-3
+    refusal-requires
     returns-3
     block-of-requires
     cast-says-bytes

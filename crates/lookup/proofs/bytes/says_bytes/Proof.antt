@@ -31,15 +31,12 @@ returns c =
 segment-requires : tie.Need-segment-requires
 segment-requires c κs = if-so (leb? pointerBit (c .before .before .before .args .cell)) (c .before .is-pointer .ensures) (c .if1 .left)
 
-refusal-requires : tie.Need-refusal-requires
-refusal-requires c κs = search needs
-
 returns-2 : tie.Need-returns-2
 returns-2 c =
-    let s = c .before .before .before .before .before .before .args in
+    let s = c .before .before .before .before .before .args in
     let long = words (now (s .long)) in
-    let astray : length long / blockSize ≤ segmentOf (s .cell) = omega (arith, c .before .if2 .taken, length-words (now (s .long))) in
-    c .refusal .ensures ∙ sym (ap packed (not-lent long (s .low) (s .cell) (segment-requires (c .before .before .before) tt) astray))
+    let astray : length long / blockSize ≤ segmentOf (s .cell) = omega (arith, c .if2 .taken, length-words (now (s .long))) in
+    sym (ap packed (not-lent long (s .low) (s .cell) (segment-requires (c .before .before) tt) astray))
 
 mul-word : tie.Need-mul-word
 mul-word c = search needs
@@ -71,7 +68,6 @@ says-bytes-spec =
     verdict-requires
     returns
     segment-requires
-    refusal-requires
     returns-2
     mul-word
     add-word

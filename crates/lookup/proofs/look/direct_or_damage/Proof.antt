@@ -22,17 +22,13 @@ returns c =
     let e = cond-on (found (hopOf (s .cell))) (refused 4) direct (says direct (sym (c .before .before .is-direct .ensures) ∙ c .before .if1 .taken)) in
     omega (arith, ap packed e)
 
-refusal-requires : tie.Need-refusal-requires
-refusal-requires c κs = search needs
-
 returns-2 : tie.Need-returns-2
 returns-2 c =
-    let s = c .before .before .before .args in
+    let s = c .before .before .args in
     let direct = isDirect? (s .longest) (s .cell) in
-    c .refusal .ensures
-    ∙ sym (ap packed (cond-off _ _ direct (denies direct (sym (c .before .before .is-direct .ensures) ∙ c .before .if1 .left))))
+    sym (ap packed (cond-off _ _ direct (denies direct (sym (c .before .is-direct .ensures) ∙ c .if1 .left))))
 
 pub direct-or-damage-spec : {M : Type 1} → statement M
 direct-or-damage-spec =
     tie.close
-    (tie.spec is-direct-requires hop-requires returns refusal-requires returns-2)
+    (tie.spec is-direct-requires hop-requires returns returns-2)

@@ -29,15 +29,11 @@ returns c =
 segment-requires : tie.Need-segment-requires
 segment-requires c κs = if-so (leb? pointerBit (c .before .before .before .args .cell)) (c .before .is-pointer .ensures) (c .if1 .left)
 
-refusal-requires : tie.Need-refusal-requires
-refusal-requires c κs = search needs
-
 returns-2 : tie.Need-returns-2
 returns-2 c =
-    let s = c .before .before .before .before .before .before .args in
-    let astray : length (now (s .long)) / blockSize ≤ segmentOf (s .cell) = omega (arith, c .before .if2 .taken) in
-    c .refusal .ensures
-    ∙ sym (ap packed (not-lent (now (s .long)) (s .low) (s .cell) (segment-requires (c .before .before .before) tt) astray))
+    let s = c .before .before .before .before .before .args in
+    let astray : length (now (s .long)) / blockSize ≤ segmentOf (s .cell) = omega (arith, c .if2 .taken) in
+    sym (ap packed (not-lent (now (s .long)) (s .low) (s .cell) (segment-requires (c .before .before) tt) astray))
 
 mul-verdict : tie.Need-mul-verdict
 mul-verdict c = search needs
@@ -70,7 +66,6 @@ says-spec =
     verdict-requires
     returns
     segment-requires
-    refusal-requires
     returns-2
     mul-verdict
     add-verdict

@@ -11,15 +11,12 @@ use Rattle.lookup.proofs.look.verdict.Tie as tie
 direct-or-damage-requires : tie.Need-direct-or-damage-requires
 direct-or-damage-requires c κs = search needs
 
-refusal-requires : tie.Need-refusal-requires
-refusal-requires c κs = search needs
-
 returns : tie.Need-returns
 unfolding verdictOf
 returns c =
-    let s = c .before .before .before .args in
-    let none : s .cell ≡ empty = omega (arith, c .before .if1 .taken) in
-    c .refusal .ensures ∙ sym (ap packed (cond-on _ _ (eqb? (s .cell) empty) none))
+    let s = c .before .before .args in
+    let none : s .cell ≡ empty = omega (arith, c .if1 .taken) in
+    sym (ap packed (cond-on _ _ (eqb? (s .cell) empty) none))
 
 returns-2 : tie.Need-returns-2
 unfolding verdictOf
@@ -29,4 +26,4 @@ returns-2 c =
     c .before .direct-or-damage .ensures ∙ sym (ap packed (cond-off _ _ (eqb? (s .cell) empty) some))
 
 pub verdict-spec : {M : Type 1} → statement M
-verdict-spec = tie.close (tie.spec direct-or-damage-requires refusal-requires returns returns-2)
+verdict-spec = tie.close (tie.spec direct-or-damage-requires returns returns-2)
