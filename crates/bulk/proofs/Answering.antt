@@ -20,7 +20,7 @@ use Rattle.prefix.specs.Geometry.{width, blockSize, blockOf}
 use Rattle.cells.proofs.Lending.{LentToRead, lentToRead?}
 use Rattle.lookup.proofs.Reading.{goes-on}
 use Rattle.lookup.proofs.Answers.{decides, told-verdict}
-use Rattle.bulk.specs.All.{answerOf, allOf}
+use Rattle.bulk.specs.All.{Outcome, answerOf, allOf}
 use Rattle.bulk.specs.inner.Passes.{blockFrom, placeOf, saidOrPointer, judged, settled, placedAll, fetchedAll, judgedAll, settledAll}
 use Rattle.bulk.proofs.Inside.{block-from, inside?}
 
@@ -46,6 +46,20 @@ module _ (first long : List ℕ) (t : Prefix) (addresses answers : List ℕ) whe
   pub answered : Asked → {r : List ℕ} → r ≡ map (answerOf first long t) addresses → record { code = 0; answers = r } ≡ allOf first long t addresses answers
   unfolding allOf
   answered h e = ap (λ (x : List ℕ). record { code = 0; answers = x }) e ∙ sym (cond-on _ _ asked? h)
+
+  -- and back, by the number that a call answers
+  pub has-answered : {o : Outcome} → o ≡ allOf first long t addresses answers → o .code ≡ 0
+      → Asked × (o .answers ≡ map (answerOf first long t) addresses)
+  unfolding allOf
+  has-answered e z =
+      by-test asked? (λ h. (h, ap (λ (y : Outcome). y .answers) (e ∙ cond-on _ _ asked? h)))
+      (λ n. absurd (omega (arith, ap (λ (y : Outcome). y .code) (e ∙ cond-off _ _ asked? n))))
+
+  pub has-refused : {o : Outcome} → o ≡ allOf first long t addresses answers → (o .code ≡ 0 → ⊥) → (Asked → ⊥) × (o .answers ≡ answers)
+  unfolding allOf
+  has-refused e m =
+      by-test asked? (λ h. absurd (m (ap (λ (y : Outcome). y .code) (e ∙ cond-on _ _ asked? h))))
+      (λ n. (n, ap (λ (y : Outcome). y .answers) (e ∙ cond-off _ _ asked? n)))
 
 -- ---- one address: what the passes make of it
 

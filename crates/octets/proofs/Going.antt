@@ -1,7 +1,7 @@
 -- Bookings one after the other, as a loop that goes up and stores the number of each over what the room held; and that to book by all
 -- answers of look up is to book each flow. Assumes nothing.
 use mathlib.Core.Path.{_≡_, refl, sym, ap, ap₂, subst, _∙_}
-use mathlib.Core.Bool.{Bool, cond, _&&_}
+use mathlib.Core.Bool.{_&&_}
 use mathlib.Core.List.{List, [], _∷_, _++_, map, append-nil}
 use Prim.Native.Nat.{ℕ, zero, suc, _+_, _≤_, _<_}
 use native.Mathlib.Nat.{not-suc-le-zero, le-of-suc-le-suc}
@@ -10,14 +10,14 @@ use native.Mathlib.Omega.{arith}
 use lib.Dec.{eqb}
 use lib.ListN.{length, getD, set, take, drop, length-set, drop-of-length-le}
 use lib.Seq.{drop-cons, take-all, take-suc-set, append-snoc, drop-set-lt}
-use Rattle.ground.proofs.Tests.{Decides, holds, fails, eqb?, and?, cond-on, cond-off}
+use Rattle.ground.proofs.Tests.{Decides, eqb?, and?, cond-on, cond-off}
 use Rattle.prefix.specs.declared.Prefix.{Prefix}
 use Rattle.lookup.specs.declared.look.Answer.{Answer}
 use Rattle.cells.specs.Memory.{lentToRead}
 use Rattle.lookup.specs.Lookup.{unpackedOf}
 use Rattle.lookup.proofs.Answers.{told-look, unpacked}
 use Rattle.bulk.proofs.Answering.{Asked, asked?}
-use Rattle.bulk.specs.All.{answerOf, allOf, Outcome as All}
+use Rattle.bulk.specs.All.{answerOf}
 use Rattle.octets.specs.Words.{wordCount}
 use Rattle.octets.specs.Booking.{Outcome, enter, book}
 use Rattle.octets.specs.Many.{Booked, each, bookEach, bookAll}
@@ -114,30 +114,6 @@ hops-small first long t xs ys e = subst HopsFit (sym e) (go xs)
     go [] k m = absurd (not-suc-le-zero m)
     go (x ∷ l) zero m = omega (arith, told-look first long t x .hop)
     go (x ∷ l) (suc k) m = go l k (le-of-suc-le-suc m)
-
-module _ (first long : List ℕ) (t : Prefix) (addresses codes : List ℕ) where
-  abbrev Answers : Type 0
-  Answers = Asked first long t addresses codes
-
-  pub answered : {o : All} → o ≡ allOf first long t addresses codes → o .code ≡ 0 → Answers × (o .answers ≡ map (answerOf first long t) addresses)
-  unfolding allOf
-  answered {o} e z = go (asked? first long t addresses codes) e
-    where
-      go : {x : Bool} → Decides Answers x
-          → o ≡ cond x (record { code = 0; answers = map (answerOf first long t) addresses }) (record { code = 1; answers = codes })
-          → Answers × (o .answers ≡ map (answerOf first long t) addresses)
-      go (holds p) f = (p, ap (λ (y : All). y .answers) f)
-      go (fails n) f = absurd (omega (arith, ap (λ (y : All). y .code) f))
-
-  pub not-answered : {o : All} → o ≡ allOf first long t addresses codes → (o .code ≡ 0 → ⊥) → (Answers → ⊥) × (o .answers ≡ codes)
-  unfolding allOf
-  not-answered {o} e m = go (asked? first long t addresses codes) e
-    where
-      go : {x : Bool} → Decides Answers x
-          → o ≡ cond x (record { code = 0; answers = map (answerOf first long t) addresses }) (record { code = 1; answers = codes })
-          → (Answers → ⊥) × (o .answers ≡ codes)
-      go (holds p) f = absurd (m (ap (λ (y : All). y .code) f))
-      go (fails n) f = (n, ap (λ (y : All). y .answers) f)
 
 module _ (first long : List ℕ) (t : Prefix) (addresses amounts codes words : List ℕ) where
   -- what the call asks
