@@ -1,6 +1,6 @@
 -- What a cell of the first table says, one law for each case; and what an answer of look up can be, so that the one number that holds its
 -- code and its hop tells them. Assumes nothing.
-use mathlib.Core.Path.{_≡_, refl, ap, _∙_}
+use mathlib.Core.Path.{_≡_, refl, sym, ap, _∙_}
 use mathlib.Core.Bool.{Bool, true, false, cond}
 use mathlib.Core.List.{List}
 use Prim.Native.Nat.{ℕ, _+_, _*_, _/_, _%_, _≤_, _<_}
@@ -78,9 +78,11 @@ told-look first long t a =
     (told-cond (contains t a) (told-says long (a % blockSize) _) (told-refused 3 (lit< tt) (lit≤ tt)))
     (told-refused 1 (lit< tt) (lit≤ tt))
 
--- such an answer from its number
+-- ---- an answer as one number
+
+-- what has a number's two parts is the answer that it holds
+pub parts : (r : Answer) (n : ℕ) → r .code ≡ n / answerRadix → r .hop ≡ n % answerRadix → r ≡ unpackedOf n
+parts r n c h = λ i. record { code = c i; hop = h i }
+
 pub unpacked : {r : Answer} {n : ℕ} → Told r → n ≡ packed r → unpackedOf n ≡ r
-unpacked {r} {n} T e =
-    let c : n / answerRadix ≡ r .code = omega (arith, T .hop) in
-    let h : n % answerRadix ≡ r .hop = omega (arith, T .hop) in
-    λ i. record { code = c i; hop = h i }
+unpacked {r} {n} T e = sym (parts r n (omega (arith, T .hop)) (omega (arith, T .hop)))
