@@ -19,7 +19,7 @@ use Rattle.lookup.specs.inner.Standing.{standingOf}
 use Rattle.prefix.specs.Geometry.{width, blockSize, blockOf}
 use Rattle.cells.proofs.Lending.{LentToRead, lentToRead?}
 use Rattle.lookup.proofs.Reading.{goes-on}
-use Rattle.lookup.proofs.Answers.{decides, told-verdict}
+use Rattle.lookup.proofs.Answers.{decides, told-verdict, no-pointer}
 use Rattle.bulk.specs.All.{Outcome, answerOf, allOf}
 use Rattle.bulk.specs.inner.Passes.{blockFrom, placeOf, saidOrPointer, judged, settled, placedAll, fetchedAll, judgedAll, settledAll}
 use Rattle.bulk.proofs.Inside.{block-from, inside?}
@@ -69,9 +69,8 @@ unfolding settled saidOrPointer
 settles long a cell =
     by-test (leb? pointerBit cell)
     (λ p. ap (settled long a) (cond-on _ _ (leb? pointerBit cell) p) ∙ cond-on _ _ (leb? pointerBit cell) p)
-    (λ n. let said = packed (verdictOf width cell) in let s = told-verdict width cell in
-    ap (settled long a) (cond-off _ _ (leb? pointerBit cell) n)
-    ∙ cond-off _ _ (leb? pointerBit said) (λ p. omega (arith, s .code, s .hop))
+    (λ n. ap (settled long a) (cond-off _ _ (leb? pointerBit cell) n)
+    ∙ cond-off _ _ (leb? pointerBit (packed (verdictOf width cell))) (no-pointer (told-verdict width cell))
     ∙ sym (ap packed (decides long (a % blockSize) cell n)))
 
 module _ (first long : List ℕ) (t : Prefix) (a : ℕ) (l : LentToRead (length first) (length long) t) (fits : t .address < 2 ^ 32) (small : a < 2 ^ 32) where

@@ -84,5 +84,9 @@ told-look first long t a =
 pub parts : (r : Answer) (n : ℕ) → r .code ≡ n / answerRadix → r .hop ≡ n % answerRadix → r ≡ unpackedOf n
 parts r n c h = λ i. record { code = c i; hop = h i }
 
+-- the number tells the answer, and is no pointer
 pub unpacked : {r : Answer} {n : ℕ} → Told r → n ≡ packed r → unpackedOf n ≡ r
 unpacked {r} {n} T e = sym (parts r n (omega (arith, T .hop)) (omega (arith, T .hop)))
+
+pub no-pointer : {r : Answer} → Told r → pointerBit ≤ packed r → ⊥
+no-pointer T p = omega (arith, T .code, T .hop)

@@ -12,17 +12,16 @@ use lib.ListN.{length, getD, set, take, drop, length-set, drop-of-length-le}
 use lib.Seq.{drop-cons, take-all, take-suc-set, append-snoc, drop-set-lt}
 use Rattle.ground.proofs.Tests.{Decides, eqb?, and?, cond-on, cond-off}
 use Rattle.prefix.specs.declared.Prefix.{Prefix}
-use Rattle.lookup.specs.declared.look.Answer.{Answer}
 use Rattle.cells.specs.Memory.{lentToRead}
 use Rattle.lookup.specs.Lookup.{unpackedOf}
-use Rattle.lookup.proofs.Answers.{told-look, unpacked}
+use Rattle.lookup.proofs.Answers.{Told, told-look, unpacked}
 use Rattle.bulk.proofs.Answering.{Asked, asked?}
 use Rattle.bulk.specs.All.{answerOf}
 use Rattle.octets.specs.Words.{wordCount}
-use Rattle.octets.specs.Booking.{Outcome, enter, book}
+use Rattle.octets.specs.Booking.{Outcome}
 use Rattle.octets.specs.Many.{Booked, each, bookEach, bookAll}
 use Rattle.octets.specs.inner.Numbers.{HopsFit, enterNumber, enterEach}
-use Rattle.octets.proofs.Entering.{did-enter, did-long}
+use Rattle.octets.proofs.Entering.{booked, did-enter, did-long}
 
 -- ---- the loop
 
@@ -85,12 +84,6 @@ module _ {one : ℕ → ℕ → List ℕ → Outcome} {xs ns ws : List ℕ} wher
 -- ---- all answers first
 
 module _ (first long : List ℕ) (t : Prefix) where
-  one-same : (a n : ℕ) (words : List ℕ) → length words ≡ wordCount → enterNumber (answerOf first long t a) n words ≡ book first long t a n words
-  unfolding book
-  one-same a n words l =
-      ap (λ (x : Answer). enter x n words) (unpacked (told-look first long t a) refl)
-      ∙ sym (cond-on _ _ (eqb? (length words) wordCount) l)
-
   pub by-answers : (xs ns words : List ℕ) → length words ≡ wordCount
       → enterEach (map (answerOf first long t) xs) ns words ≡ bookEach first long t xs ns words
   unfolding each
@@ -101,18 +94,17 @@ module _ (first long : List ℕ) (t : Prefix) where
       let more = did-long (did-enter (unpackedOf (answerOf first long t a)) n words) in
       ap (λ (b : Booked). record { codes = o .code ∷ b .codes; words = b .words }) (by-answers xs ns (o .words) (more ∙ l))
       ∙ ap (λ (q : Outcome). let b = bookEach first long t xs ns (q .words) in record { codes = q .code ∷ b .codes; words = b .words })
-      (one-same a n words l)
+      (booked first long t a n words l (unpacked (told-look first long t a) refl) refl)
 
 -- ---- the call, by what was tested
 
 -- the hop in look up's number is small
-pub hops-small : (first long : List ℕ) (t : Prefix) (xs ys : List ℕ) → ys ≡ map (answerOf first long t) xs
-    → HopsFit ys
+pub hops-small : (first long : List ℕ) (t : Prefix) (xs ys : List ℕ) → ys ≡ map (answerOf first long t) xs → HopsFit ys
 hops-small first long t xs ys e = subst HopsFit (sym e) (go xs)
   where
     go : (l : List ℕ) → HopsFit (map (answerOf first long t) l)
     go [] k m = absurd (not-suc-le-zero m)
-    go (x ∷ l) zero m = omega (arith, told-look first long t x .hop)
+    go (x ∷ l) zero m = let T = told-look first long t x in subst Told (sym (unpacked T refl)) T .hop
     go (x ∷ l) (suc k) m = go l k (le-of-suc-le-suc m)
 
 module _ (first long : List ℕ) (t : Prefix) (addresses amounts codes words : List ℕ) where
