@@ -44,10 +44,11 @@ module _ (answer : Answer) (amount : ℕ) (words : List ℕ) where
     too-much h =
         sym (cond-on _ _ (eqb? (refusalOf (answer .code)) 0) z ∙ cond-off _ _ (leb? (getD words (answer .hop) 0 + amount) most) (λ l. omega arith))
 
-    pub entered : getD words (answer .hop) 0 + amount ≤ most
-        → record { code = 0; words = set words (answer .hop) (getD words (answer .hop) 0 + amount) } ≡ enter answer amount words
+    pub entered : (v : ℕ) → v ≡ getD words (answer .hop) 0 + amount → v ≤ most → record { code = 0; words = set words (answer .hop) v } ≡ enter answer amount words
     unfolding enter addTo
-    entered h = sym (cond-on _ _ (eqb? (refusalOf (answer .code)) 0) z ∙ cond-on _ _ (leb? (getD words (answer .hop) 0 + amount) most) h)
+    entered v e h =
+        ap (λ (k : ℕ). record { code = 0; words = set words (answer .hop) k }) e
+        ∙ sym (cond-on _ _ (eqb? (refusalOf (answer .code)) 0) z ∙ cond-on _ _ (leb? (getD words (answer .hop) 0 + amount) most) (omega arith))
 
 module _ (first long : List ℕ) (t : Prefix) (a amount : ℕ) (words : List ℕ) where
   pub wrong-words : (length words ≡ wordCount → ⊥) → refused 1 words ≡ book first long t a amount words
@@ -90,7 +91,7 @@ pub did-enter : (r : Answer) (amount : ℕ) (words : List ℕ) → Did r amount 
 did-enter r amount words =
     by-test (eqb? (refusalOf (r .code)) 0)
     (λ z. by-test (leb? (getD words (r .hop) 0 + amount) most)
-    (λ l. subst (Did r amount words) (entered r amount words z l) (took z l))
+    (λ l. subst (Did r amount words) (entered r amount words z _ refl l) (took z l))
     (λ n. subst (Did r amount words) (too-much r amount words z (omega arith)) (left 30 (λ e. omega arith))))
     (λ n. subst (Did r amount words) (turned-away r amount words refl n) (left (refusalOf (r .code)) n))
 

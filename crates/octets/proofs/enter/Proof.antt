@@ -40,7 +40,7 @@ returns-3 c =
     too-much (s .answer) (s .amount) (now (s .octets)) passed (omega (arith, c .if3 .taken))
 
 add-octets : tie.Need-add-octets
-add-octets c = search needs
+add-octets c = omega arith
 
 mul-octets : tie.Need-mul-octets
 mul-octets c = search needs
@@ -56,7 +56,7 @@ returns-4 c =
     let k = c .before .before .before .before .before in
     let s = k .before .before .args in
     let passed : refusalOf (s .answer .code) ≡ 0 = omega (arith, k .refusal .ensures, c .before .before .before .before .if1 .left) in
-    entered (s .answer) (s .amount) (now (s .octets)) passed (omega (arith, c .before .if2 .left, c .if3 .left))
+    entered (s .answer) (s .amount) (now (s .octets)) passed _ (omega arith) (omega (arith, c .before .if2 .left, c .if3 .left))
 
 pub enter-spec : {M : Type 1} → statement M
 enter-spec =

@@ -45,7 +45,7 @@ mul-verdict-2 : tie.Need-mul-verdict-2
 mul-verdict-2 c = search needs
 
 shared-slice-read-verdict : tie.Need-shared-slice-read-verdict
-shared-slice-read-verdict c = search needs
+shared-slice-read-verdict c = omega arith
 
 verdict-requires-2 : tie.Need-verdict-requires-2
 verdict-requires-2 c κs = search needs
