@@ -18,7 +18,7 @@ use Rattle.lookup.proofs.Answers.{Told, told-look}
 use Rattle.octets.specs.Words.{wordCount, most}
 use Rattle.octets.specs.Booking.{Outcome, clearOctets}
 use Rattle.octets.specs.Many.{each, bookEach}
-use Rattle.octets.specs.Bookings.{Bookings, none, _booking_, bookFlow, wordsAfter, isAccepted, names, answerTo, octetsFor, octetsAll, alsoAll, Balances}
+use Rattle.octets.specs.Bookings.{Bookings, none, _booking_, wordsAfter, isAccepted, names, answerTo, octetsFor, octetsAll, alsoAll, Balances}
 use Rattle.octets.proofs.Entering.{names?, Did, took, left, did-book, did-long, not-gained}
 
 -- ---- one booking
@@ -101,9 +101,8 @@ module _ (w : List ℕ) (lent : length w ≡ wordCount) where
       let long = words-long b in
       let D = did-book (f .first) (f .long) (f .territory) (f .address) (f .amount) words in
       record {
-        each-word = λ h m.
-            each-gains r T (f .amount) words long D h ∙ ap (λ (k : ℕ). k + gainedBy (bookFlow f words) r (f .amount) h) (B .each-word h m);
-        all-words = all-gain r T (f .amount) words long D ∙ ap (λ (k : ℕ). k + gained (bookFlow f words) (f .amount)) (B .all-words);
+        each-word = λ h m. omega (arith, each-gains r T (f .amount) words long D h, B .each-word h m);
+        all-words = omega (arith, all-gain r T (f .amount) words long D, B .all-words);
         no-more = each-fits r T (f .amount) words long D (B .no-more);
       }
 
