@@ -57,16 +57,13 @@ segment-lent {first} {long} {t} {a} s p =
     by-lt (segmentOf (firstCell first t a)) (length long / blockSize) (λ l. l) (λ h. absurd (s .lent (record { pointer = p; not-lent = h })))
 
 module _ (first long : Run) (t : Prefix) (a : ℕ) where
-  pub shown-none : (showCode (first .cells) (long .cells) t a ≡ 0 → ⊥) → record { place = first .place; cells = [] } ≡ shown first long t a
-  unfolding shown
-  shown-none n =
-      sym (cond-off _ _ (eqb? (showCode (first .cells) (long .cells) t a) 0) n
-      ∙ ap (λ (offset : ℕ). record { place = (first .place .0, offset); cells = [] }) (zero-add (first .place .1)))
-
-  -- the same of the empty part at a place that is the first table's start
-  pub shown-none-at : (memory offset : ℕ) → memory ≡ first .place .0 → offset ≡ first .place .1 → (showCode (first .cells) (long .cells) t a ≡ 0 → ⊥)
+  -- the empty part at the first table's start
+  pub shown-none : (memory offset : ℕ) → memory ≡ first .place .0 → offset ≡ first .place .1 → (showCode (first .cells) (long .cells) t a ≡ 0 → ⊥)
       → record { place = (memory, offset); cells = [] } ≡ shown first long t a
-  shown-none-at memory offset m o n = ap₂ (λ (x y : ℕ). record { place = (x, y); cells = [] }) m o ∙ shown-none n
+  unfolding shown
+  shown-none memory offset m o n =
+      ap₂ (λ (x y : ℕ). record { place = (x, y); cells = [] }) m (o ∙ sym (zero-add (first .place .1)))
+      ∙ sym (cond-off _ _ (eqb? (showCode (first .cells) (long .cells) t a) 0) n)
 
   module _ (e : showCode (first .cells) (long .cells) t a ≡ 0) where
     pub shown-cell : (pointerBit ≤ firstCell (first .cells) t a → ⊥) → part first (blockOf t a) 1 ≡ shown first long t a

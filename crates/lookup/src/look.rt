@@ -21,13 +21,13 @@ pub struct Answer {
 // An answer as the one number code * RADIX + hop: no other file knows how it is made.
 impl Answer {
     const RADIX: u32 = 65536;
-    // Refusal 1: what is lent. 3: an address outside. 4: damage. 8: no route.
+    // Refusal 1, what is lent is not right.
     pub const NOT_LENT: u32 = Answer::RADIX;
-
+    // Refusal 3, the address is outside the territory.
     pub const OUTSIDE: u32 = 3 * Answer::RADIX;
-
+    // Refusal 4, damage.
     pub const DAMAGE: u32 = 4 * Answer::RADIX;
-
+    // Refusal 8, no route.
     pub const NO_ROUTE: u32 = 8 * Answer::RADIX;
 
     // Any refusal.

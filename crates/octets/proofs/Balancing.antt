@@ -76,7 +76,7 @@ module _ (w : List ℕ) (lent : length w ≡ wordCount) where
   unfolding wordsAfter clearOctets
   cleared = ap (λ (o : Outcome). o .words) (cond-on _ _ (eqb? (length w) wordCount) lent)
 
-  pub words-long : (b : Bookings) → length (wordsAfter w b) ≡ wordCount
+  words-long : (b : Bookings) → length (wordsAfter w b) ≡ wordCount
   unfolding wordsAfter
   words-long none = ap length cleared ∙ length-replicate {A = ℕ} wordCount 0
   words-long (b booking f) =

@@ -63,7 +63,7 @@ module _ (first long : List ℕ) (t : Prefix) (a amount : ℕ) (words : List ℕ
 -- ---- what an answer of look up names
 
 -- a code that refuses no record is 0 or 8
-pub no-refusal : {C : Type 0} (code : ℕ) → refusalOf code ≡ 0 → (code ≡ 0 → C) → (code ≡ 8 → C) → C
+no-refusal : {C : Type 0} (code : ℕ) → refusalOf code ≡ 0 → (code ≡ 0 → C) → (code ≡ 8 → C) → C
 unfolding refusalOf
 no-refusal code z zero eight = by-eq code 8 eight (λ n. zero (sym (cond-off 0 code (eqb? code 8) n) ∙ z))
 

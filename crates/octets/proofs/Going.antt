@@ -84,7 +84,7 @@ module _ {one : ℕ → ℕ → List ℕ → Outcome} {xs ns ws : List ℕ} wher
 -- ---- all answers first
 
 module _ (first long : List ℕ) (t : Prefix) where
-  pub by-answers : (xs ns words : List ℕ) → length words ≡ wordCount
+  by-answers : (xs ns words : List ℕ) → length words ≡ wordCount
       → enterEach (map (answerOf first long t) xs) ns words ≡ bookEach first long t xs ns words
   unfolding each
   by-answers [] ns words l = refl

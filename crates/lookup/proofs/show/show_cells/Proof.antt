@@ -9,7 +9,7 @@ use Rattle.prefix.specs.Geometry.{blockSize}
 use Rattle.cells.specs.Cells.{pointerBit, segmentOf}
 use Rattle.lookup.specs.Show.{seen, part, firstCell, showCode}
 use Rattle.lookup.proofs.Reading.{past-base, block-lent}
-use Rattle.lookup.proofs.Showing.{Shows, shows, segment-lent, shown-none-at, shown-cell, shown-segment, part-on}
+use Rattle.lookup.proofs.Showing.{Shows, shows, segment-lent, shown-none, shown-cell, shown-segment, part-on}
 use borrow.Author.Needs.{needs}
 use Rattle.lookup.proofs.show.show_cells.Statement.{statement}
 use Rattle.lookup.proofs.show.show_cells.Tie as tie
@@ -24,7 +24,7 @@ returns : tie.Need-returns
 returns c =
     let s = c .before .before .before .before .before .args in
     let refused : ¬ (showCode (now (s .first)) (now (s .long)) (s .territory) (s .address) ≡ 0) = omega (arith, c .before .if1 .taken, c .before .before .show-code .ensures) in
-    shown-none-at (seen (s .first)) (seen (s .long)) (s .territory) (s .address) _ _ (omega arith) (omega arith) refused
+    shown-none (seen (s .first)) (seen (s .long)) (s .territory) (s .address) _ _ (omega arith) (omega arith) refused
 
 -- past the first test, there is a part to show
 zero : (c : tie.Else1) → let s = c .before .before .before .before .args in showCode (now (s .first)) (now (s .long)) (s .territory) (s .address) ≡ 0
