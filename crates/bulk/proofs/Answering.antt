@@ -1,62 +1,77 @@
 -- The passes one after another make of each address what look up answers; and the outcome of a call, by what was tested. Assumes nothing.
 use mathlib.Core.Path.{_≡_, sym, ap, _∙_}
 use mathlib.Core.List.{List, map}
-use Prim.Native.Nat.{ℕ, _-_, _%_, _^_, _<_}
+use Prim.Native.Nat.{ℕ, _%_, _^_, _<_}
 use native.Mathlib.Omega.{arith}
-use lib.Dec.{ltb}
-use lib.Pow.{pow-pos}
+use lib.Dec.{ltb, eqb}
+use mathlib.Core.Bool.{_&&_}
 use lib.ListN.{length, getD}
-use Rattle.ground.specs.Lists.{mapAt}
 use Rattle.ground.proofs.Lists.{pass-at, pass-then, pass-map}
 use Rattle.ground.proofs.Tests.{Decides, leb?, ltb?, eqb?, and?, by-test, cond-on, cond-off}
 use Rattle.prefix.specs.declared.Prefix.{Prefix}
 use Rattle.prefix.specs.Prefixes.{Contains}
 use Rattle.prefix.proofs.Prefixes.{contains?, own}
+use Rattle.prefix.proofs.Spans.{some-block}
 use Rattle.cells.specs.Cells.{pointerBit}
-use Rattle.lookup.specs.Lookup.{refused, standingOf, verdictOf, saysOf, lookUp, packed}
-use Rattle.prefix.specs.Geometry.{blockOf}
+use Rattle.cells.specs.Memory.{lentToRead}
+use Rattle.lookup.specs.Lookup.{refused, verdictOf, saysOf, lookUp, packed}
+use Rattle.lookup.specs.inner.Standing.{standingOf}
+use Rattle.prefix.specs.Geometry.{width, blockSize, blockOf}
 use Rattle.cells.proofs.Lending.{LentToRead, lentToRead?}
-use Rattle.lookup.proofs.Reading.{stands, goes-on}
-use Rattle.lookup.proofs.Answers.{decides, small-verdict}
-use Rattle.bulk.specs.All.{answerOf, allOf}
-use Rattle.bulk.specs.Passes.{blockFrom, placeOf, saidOrPointer, judged, settled}
+use Rattle.lookup.proofs.Reading.{goes-on}
+use Rattle.lookup.proofs.Answers.{decides, told-verdict, no-pointer}
+use Rattle.bulk.specs.All.{Outcome, answerOf, allOf}
+use Rattle.bulk.specs.inner.Passes.{blockFrom, placeOf, saidOrPointer, judged, settled, placedAll, fetchedAll, judgedAll, settledAll}
 use Rattle.bulk.proofs.Inside.{block-from, inside?}
 
 -- ---- what was tested
 
--- the territory's own address stands exactly where what is lent is right
-pub lent : (first long : ℕ) (t : Prefix) → standingOf first long t (t .address) ≡ 0 → LentToRead first long t
-lent first long t e = stands first long t (t .address) e .lent
-
+-- the territory's own address stands where what is lent is right
 pub not-lent : (first long : ℕ) (t : Prefix) → (standingOf first long t (t .address) ≡ 0 → ⊥) → LentToRead first long t → ⊥
 unfolding standingOf
 not-lent first long t n l = n (cond-on _ _ (lentToRead? first long t) l ∙ cond-on _ _ (contains? t (t .address)) (own t))
 
 module _ (first long : List ℕ) (t : Prefix) (addresses answers : List ℕ) where
-  pub refuses : (LentToRead (length first) (length long) t × (length addresses ≡ length answers) → ⊥)
-      → record { code = 1; answers = answers } ≡ allOf first long t addresses answers
-  unfolding allOf
-  refuses n = sym (cond-off _ _ (and? (lentToRead? (length first) (length long) t) (eqb? (length addresses) (length answers))) n)
+  -- what a call asks
+  abbrev pub Asked : Type 0
+  Asked = LentToRead (length first) (length long) t × (length addresses ≡ length answers)
 
-  pub answered : LentToRead (length first) (length long) t → length addresses ≡ length answers → {r : List ℕ} → r ≡ map (answerOf first long t) addresses
-      → record { code = 0; answers = r } ≡ allOf first long t addresses answers
+  pub asked? : Decides Asked (lentToRead (length first) (length long) t && eqb (length addresses) (length answers))
+  asked? = and? (lentToRead? (length first) (length long) t) (eqb? (length addresses) (length answers))
+
+  pub refuses : (Asked → ⊥) → record { code = 1; answers = answers } ≡ allOf first long t addresses answers
   unfolding allOf
-  answered l e h =
-      ap (λ (x : List ℕ). record { code = 0; answers = x }) h
-      ∙ sym (cond-on _ _ (and? (lentToRead? (length first) (length long) t) (eqb? (length addresses) (length answers))) (l, e))
+  refuses n = sym (cond-off _ _ asked? n)
+
+  pub answered : Asked → {r : List ℕ} → r ≡ map (answerOf first long t) addresses → record { code = 0; answers = r } ≡ allOf first long t addresses answers
+  unfolding allOf
+  answered h e = ap (λ (x : List ℕ). record { code = 0; answers = x }) e ∙ sym (cond-on _ _ asked? h)
+
+  -- and back, by the number that a call answers
+  pub has-answered : {o : Outcome} → o ≡ allOf first long t addresses answers → o .code ≡ 0
+      → Asked × (o .answers ≡ map (answerOf first long t) addresses)
+  unfolding allOf
+  has-answered e z =
+      by-test asked? (λ h. (h, ap (λ (y : Outcome). y .answers) (e ∙ cond-on _ _ asked? h)))
+      (λ n. absurd (omega (arith, ap (λ (y : Outcome). y .code) (e ∙ cond-off _ _ asked? n))))
+
+  pub has-refused : {o : Outcome} → o ≡ allOf first long t addresses answers → (o .code ≡ 0 → ⊥) → (Asked → ⊥) × (o .answers ≡ answers)
+  unfolding allOf
+  has-refused e m =
+      by-test asked? (λ h. absurd (m (ap (λ (y : Outcome). y .code) (e ∙ cond-on _ _ asked? h))))
+      (λ n. (n, ap (λ (y : Outcome). y .answers) (e ∙ cond-off _ _ asked? n)))
 
 -- ---- one address: what the passes make of it
 
 -- a first cell judged and settled
-settles : (long : List ℕ) (a cell : ℕ) → settled long a (saidOrPointer cell) ≡ packed (saysOf long (a % 256) cell)
+settles : (long : List ℕ) (a cell : ℕ) → settled long a (saidOrPointer cell) ≡ packed (saysOf long (a % blockSize) cell)
 unfolding settled saidOrPointer
 settles long a cell =
     by-test (leb? pointerBit cell)
     (λ p. ap (settled long a) (cond-on _ _ (leb? pointerBit cell) p) ∙ cond-on _ _ (leb? pointerBit cell) p)
-    (λ n. let said = packed (verdictOf 24 cell) in let s = small-verdict 24 cell in
-    ap (settled long a) (cond-off _ _ (leb? pointerBit cell) n)
-    ∙ cond-off _ _ (leb? pointerBit said) (λ p. omega (arith, s .code, s .hop))
-    ∙ sym (ap packed (decides long (a % 256) cell (omega arith))))
+    (λ n. ap (settled long a) (cond-off _ _ (leb? pointerBit cell) n)
+    ∙ cond-off _ _ (leb? pointerBit (packed (verdictOf width cell))) (no-pointer (told-verdict width cell))
+    ∙ sym (ap packed (decides long (a % blockSize) cell n)))
 
 module _ (first long : List ℕ) (t : Prefix) (a : ℕ) (l : LentToRead (length first) (length long) t) (fits : t .address < 2 ^ 32) (small : a < 2 ^ 32) where
   in? : Decides (Contains t a) (ltb (blockFrom (t .address) a) (length first))
@@ -70,7 +85,7 @@ module _ (first long : List ℕ) (t : Prefix) (a : ℕ) (l : LentToRead (length 
       ap (λ (k : ℕ). settled long a (judged (t .address) (length first) a (getD first k 0))) (cond-on _ _ in? c ∙ block-from (l .territory) fits small c)
       ∙ ap (settled long a) (cond-on _ _ in? c)
       ∙ settles long a cell
-      ∙ ap packed (goes-on refused (length first) (length long) t a (saysOf long (a % 256) cell) (record { lent = l; inside = c })))
+      ∙ ap packed (goes-on refused (length first) (length long) t a (saysOf long (a % blockSize) cell) (record { lent = l; inside = c })))
       (λ n. ap (settled long a) (cond-off _ _ in? n)
       ∙ sym (ap packed (cond-on _ _ (lentToRead? (length first) (length long) t) l ∙ cond-off _ _ (contains? t a) n)))
 
@@ -84,19 +99,16 @@ place-lent base blocks address h =
     by-test d (λ l. omega (arith, cond-on (blockFrom base address) 0 d l)) (λ n. omega (arith, cond-off (blockFrom base address) 0 d n))
 
 module _ (first long : List ℕ) (t : Prefix) (addresses answers : List ℕ) (l : LentToRead (length first) (length long) t) where
-  pub places-lent : {y : List ℕ} → y ≡ mapAt (λ i x. placeOf (t .address) (length first) (getD addresses i 0)) answers
+  pub places-lent : {y : List ℕ} → y ≡ placedAll (t .address) (length first) addresses answers
       → (i : ℕ) → i < length y → getD y i 0 < length first
   places-lent {y} e i h =
-      let some = pow-pos (24 - t .length) in
-      let at = place-lent (t .address) (length first) (getD addresses i 0) (omega (arith, l .a-cell-a-block)) in
+      let at = place-lent (t .address) (length first) (getD addresses i 0) (omega (arith, l .a-cell-a-block, some-block t)) in
       omega (arith, pass-at _ answers y e i h)
 
   -- the four passes, each on what the last one left
   pub passes-all : t .address < 2 ^ 32 → ((i : ℕ) → i < length addresses → getD addresses i 0 < 2 ^ 32) → length addresses ≡ length answers → {v w x y : List ℕ}
-      → v ≡ mapAt (λ i x. placeOf (t .address) (length first) (getD addresses i 0)) answers
-      → w ≡ mapAt (λ i x. getD first x 0) v
-      → x ≡ mapAt (λ i x. judged (t .address) (length first) (getD addresses i 0) x) w
-      → y ≡ mapAt (λ i x. settled long (getD addresses i 0) x) x
+      → v ≡ placedAll (t .address) (length first) addresses answers → w ≡ fetchedAll first v
+      → x ≡ judgedAll (t .address) (length first) addresses w → y ≡ settledAll long addresses x
       → y ≡ map (answerOf first long t) addresses
   passes-all fits small n {v} {w} {x} {y} p q r s =
       pass-then _ _ answers x y (pass-then _ _ answers w x (pass-then _ _ answers v w p q) r) s

@@ -11,7 +11,7 @@ use Rattle.prefix.specs.Prefixes.{Contains}
 use Rattle.prefix.specs.Geometry.{Territory, blocks, blockOf}
 use Rattle.prefix.proofs.Prefixes.{in-range, by-range, ends-within}
 use Rattle.prefix.proofs.Spans.{span-blocks, block-inside}
-use Rattle.bulk.specs.Passes.{blockFrom}
+use Rattle.bulk.specs.inner.Passes.{blockFrom}
 
 module _ {t : Prefix} {a : ℕ} (h : Territory t) (fits : t .address < 2 ^ 32) (small : a < 2 ^ 32) where
   pub block-from : Contains t a → blockFrom (t .address) a ≡ blockOf t a

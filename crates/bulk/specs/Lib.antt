@@ -1,3 +1,3 @@
--- What many addresses looked up in one call are answered, and what each pass over the answers does.
+-- What many addresses looked up in one call are answered; in `inner`, what serves the passes over the answers.
 pub mod All
-pub mod Passes
+pub mod inner

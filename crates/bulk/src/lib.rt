@@ -3,9 +3,8 @@
 ghost use mathlib.Core.Path.{_≡_};
 ghost use Prim.Native.Nat.{ℕ, _<_};
 ghost use lib.ListN.{length, getD};
-ghost use Rattle.ground.specs.Lists.{mapAt};
 ghost use Rattle.bulk.specs.All.{allOf};
-ghost use Rattle.bulk.specs.Passes.{blockFrom, placeOf, saidOrPointer, judged, settled};
+ghost use Rattle.bulk.specs.inner.Passes.{blockFrom, placeOf, saidOrPointer, judged, settled, placedAll, fetchedAll, judgedAll, settledAll};
 use cells::cell::Cell;
 use lookup::look::Answer;
 use lookup::look::says;
@@ -46,7 +45,7 @@ fn judge(base: u32, blocks: u32, address: u32, cell: u32) -> u32
     if block(base, address) < blocks {
         number
     } else {
-        Answer::refusal(3)
+        Answer::OUTSIDE
     }
 }
 
@@ -63,7 +62,7 @@ fn settle(long: &[u32], address: u32, word: u32) -> u32
 // The first pass: where the first table is read.
 fn places(base: u32, blocks: u32, addresses: &[u32], answers: &mut [u32])
     requires { ⌜ length (now answers) ≡ length (now addresses) ⌝ }
-    ensures { λ _. ⌜ now (answers .exit) ≡ mapAt (λ i x. placeOf base blocks (getD (now (addresses .entry)) i 0)) (now (answers .entry)) ⌝ }
+    ensures { λ _. ⌜ now (answers .exit) ≡ placedAll base blocks (now (addresses .entry)) (now (answers .entry)) ⌝ }
 {
     let count = answers.len();
     let mut i = 0;
@@ -76,7 +75,7 @@ fn places(base: u32, blocks: u32, addresses: &[u32], answers: &mut [u32])
 // The second pass: what stands there. It does nothing else, so that as many reads as can be are under way at once.
 fn fetch(first: &[u32], answers: &mut [u32])
     requires { ⌜ ((i : ℕ) → i < length (now answers) → getD (now answers) i 0 < length (now first)) ⌝ }
-    ensures { λ _. ⌜ now (answers .exit) ≡ mapAt (λ i x. getD (now (first .entry)) x 0) (now (answers .entry)) ⌝ }
+    ensures { λ _. ⌜ now (answers .exit) ≡ fetchedAll (now (first .entry)) (now (answers .entry)) ⌝ }
 {
     let count = answers.len();
     let mut i = 0;
@@ -89,7 +88,7 @@ fn fetch(first: &[u32], answers: &mut [u32])
 // The third pass: what it says. It has no jump, so that a machine can judge several cells at once.
 fn judge_all(base: u32, blocks: u32, addresses: &[u32], answers: &mut [u32])
     requires { ⌜ length (now answers) ≡ length (now addresses) ⌝ }
-    ensures { λ _. ⌜ now (answers .exit) ≡ mapAt (λ i x. judged base blocks (getD (now (addresses .entry)) i 0) x) (now (answers .entry)) ⌝ }
+    ensures { λ _. ⌜ now (answers .exit) ≡ judgedAll base blocks (now (addresses .entry)) (now (answers .entry)) ⌝ }
 {
     let count = answers.len();
     let mut i = 0;
@@ -102,7 +101,7 @@ fn judge_all(base: u32, blocks: u32, addresses: &[u32], answers: &mut [u32])
 // The fourth pass: what each pointer says.
 fn settle_all(long: &[u32], addresses: &[u32], answers: &mut [u32])
     requires { ⌜ length (now answers) ≡ length (now addresses) ⌝ }
-    ensures { λ _. ⌜ now (answers .exit) ≡ mapAt (λ i x. settled (now (long .entry)) (getD (now (addresses .entry)) i 0) x) (now (answers .entry)) ⌝ }
+    ensures { λ _. ⌜ now (answers .exit) ≡ settledAll (now (long .entry)) (now (addresses .entry)) (now (answers .entry)) ⌝ }
 {
     let count = answers.len();
     let mut done = 0;
@@ -121,7 +120,8 @@ pub fn look_up_all(
     addresses: &[u32],
     answers: &mut [u32],
 ) -> u32
-    ensures { λ r. ⌜ record { code = r; answers = now (answers .exit) } ≡ allOf (now (first .entry)) (now (long .entry)) territory (now (addresses .entry)) (now (answers .entry)) ⌝ }
+    ensures { λ r. ⌜ record { code = r; answers = now (answers .exit) }
+        ≡ allOf (now (first .entry)) (now (long .entry)) territory (now (addresses .entry)) (now (answers .entry)) ⌝ }
 {
     let base = territory.address;
     // The territory's own address is in it: what can fail is what is lent.

@@ -1,80 +1,92 @@
--- What a cell says, one law for each case; and an answer's code and hop are small, so that the one number that holds both tells them.
--- Assumes nothing.
-use mathlib.Core.Path.{_≡_, ap, _∙_}
+-- What a cell of the first table says, one law for each case; and what an answer of look up can be, so that the one number that holds its
+-- code and its hop tells them. Assumes nothing.
+use mathlib.Core.Path.{_≡_, refl, sym, ap, _∙_}
 use mathlib.Core.Bool.{Bool, true, false, cond}
 use mathlib.Core.List.{List}
 use Prim.Native.Nat.{ℕ, _+_, _*_, _/_, _%_, _≤_, _<_}
 use native.Mathlib.Omega.{arith}
-use lib.Dec.{ltb, eqb, lit≤}
+use lib.Dec.{ltb, eqb, lit≤, lit<}
 use lib.ListN.{length, getD}
 use Rattle.ground.proofs.Tests.{Decides, holds, fails, leb?, ltb?, cond-on, cond-off}
 use Rattle.prefix.specs.declared.Prefix.{Prefix}
 use Rattle.prefix.specs.Prefixes.{contains}
-use Rattle.lookup.specs.declared.look.Answer.{Answer}
+use Rattle.prefix.specs.Geometry.{width, blockSize}
 use Rattle.cells.specs.Cells.{empty, hopOf, pointerBit, isPointer, segmentOf}
-use Rattle.lookup.specs.Lookup.{refused, found, verdictOf, saysOf, lookUp, packed}
 use Rattle.cells.specs.Memory.{lentToRead}
 use Rattle.cells.proofs.Direct.{Direct, isDirect?}
+use Rattle.lookup.specs.declared.look.Answer.{Answer}
+use Rattle.lookup.specs.Lookup.{refused, found, verdictOf, saysOf, lookUp, answerRadix, packed, unpackedOf}
 
 -- ---- what a cell of the first table says
 
 module _ (long : List ℕ) (low cell : ℕ) where
-  pub decides : cell < pointerBit → saysOf long low cell ≡ verdictOf 24 cell
+  pub decides : (pointerBit ≤ cell → ⊥) → saysOf long low cell ≡ verdictOf width cell
   unfolding saysOf
-  decides h = cond-off _ _ (leb? pointerBit cell) (λ p. omega arith)
+  decides n = cond-off _ _ (leb? pointerBit cell) n
 
   module _ (pointer : pointerBit ≤ cell) where
-    pub hands-on : segmentOf cell < length long / 256 → saysOf long low cell ≡ verdictOf 32 (getD long (segmentOf cell * 256 + low) 0)
+    pub hands-on : segmentOf cell < length long / blockSize
+        → saysOf long low cell ≡ verdictOf 32 (getD long (segmentOf cell * blockSize + low) 0)
     unfolding saysOf
-    hands-on h = cond-on _ _ (leb? pointerBit cell) pointer ∙ cond-on _ _ (ltb? (segmentOf cell) (length long / 256)) h
+    hands-on h = cond-on _ _ (leb? pointerBit cell) pointer ∙ cond-on _ _ (ltb? (segmentOf cell) (length long / blockSize)) h
 
-    pub not-lent : length long / 256 ≤ segmentOf cell → saysOf long low cell ≡ refused 4
+    pub not-lent : length long / blockSize ≤ segmentOf cell → saysOf long low cell ≡ refused 4
     unfolding saysOf
     not-lent h =
-        cond-on _ _ (leb? pointerBit cell) pointer ∙ cond-off _ _ (ltb? (segmentOf cell) (length long / 256)) (λ l. omega arith)
+        cond-on _ _ (leb? pointerBit cell) pointer
+        ∙ cond-off _ _ (ltb? (segmentOf cell) (length long / blockSize)) (λ l. omega arith)
 
 -- the same for an equal low byte
 pub by-low : (long : List ℕ) (low m cell n : ℕ) → n ≡ packed (saysOf long low cell) → low ≡ m → n ≡ packed (saysOf long m cell)
 by-low long low m cell n e h = e ∙ ap (λ (x : ℕ). packed (saysOf long x cell)) h
 
--- ---- small answers
+-- ---- what an answer can be
 
-pub record Small (r : Answer) : Type 0 where
+-- both parts are small; a refusal has no hop, and what is no refusal has one
+pub record Told (r : Answer) : Type 0 where
   pub code : r .code ≤ 8
   pub hop : r .hop ≤ 32767
+  pub refusal : (r .code ≡ 0 → ⊥) → r .hop ≡ 0
+  pub route : r .code ≡ 0 → 0 < r .hop
 
-small-refused : (code : ℕ) → code ≤ 8 → Small (refused code)
-small-refused code h = record { code = h; hop = lit≤ tt }
+told-refused : (code : ℕ) → 0 < code → code ≤ 8 → Told (refused code)
+told-refused code l h = record { code = h; hop = lit≤ tt; refusal = λ n. refl; route = λ e. absurd (omega arith) }
 
-small-cond : (t : Bool) {x y : Answer} → Small x → Small y → Small (cond t x y)
-small-cond true p q = p
-small-cond false p q = q
+told-cond : (t : Bool) {x y : Answer} → Told x → Told y → Told (cond t x y)
+told-cond true p q = p
+told-cond false p q = q
 
-pub small-verdict : (longest cell : ℕ) → Small (verdictOf longest cell)
+pub told-verdict : (longest cell : ℕ) → Told (verdictOf longest cell)
 unfolding verdictOf
-small-verdict longest cell = small-cond (eqb cell empty) (small-refused 8 (lit≤ tt)) (go (isDirect? longest cell))
+told-verdict longest cell = told-cond (eqb cell empty) (told-refused 8 (lit< tt) (lit≤ tt)) (go (isDirect? longest cell))
   where
-    go : {t : Bool} → Decides (Direct longest cell) t → Small (cond t (found (hopOf cell)) (refused 4))
-    go (holds d) = record { code = lit≤ tt; hop = d .hop-fits }
-    go (fails n) = small-refused 4 (lit≤ tt)
+    go : {t : Bool} → Decides (Direct longest cell) t → Told (cond t (found (hopOf cell)) (refused 4))
+    go (holds d) = record { code = lit≤ tt; hop = d .hop-fits; refusal = λ n. absurd (n refl); route = λ e. d .some-hop }
+    go (fails n) = told-refused 4 (lit< tt) (lit≤ tt)
 
-pub small-says : (long : List ℕ) (low cell : ℕ) → Small (saysOf long low cell)
+pub told-says : (long : List ℕ) (low cell : ℕ) → Told (saysOf long low cell)
 unfolding saysOf
-small-says long low cell =
-    small-cond (isPointer cell)
-    (small-cond (ltb (segmentOf cell) (length long / 256)) (small-verdict 32 _) (small-refused 4 (lit≤ tt)))
-    (small-verdict 24 cell)
+told-says long low cell =
+    told-cond (isPointer cell)
+    (told-cond (ltb (segmentOf cell) (length long / blockSize)) (told-verdict 32 _) (told-refused 4 (lit< tt) (lit≤ tt)))
+    (told-verdict width cell)
 
-pub small-look : (first long : List ℕ) (t : Prefix) (a : ℕ) → Small (lookUp first long t a)
+pub told-look : (first long : List ℕ) (t : Prefix) (a : ℕ) → Told (lookUp first long t a)
 unfolding lookUp
-small-look first long t a =
-    small-cond (lentToRead (length first) (length long) t)
-    (small-cond (contains t a) (small-says long (a % 256) _) (small-refused 3 (lit≤ tt)))
-    (small-refused 1 (lit≤ tt))
+told-look first long t a =
+    told-cond (lentToRead (length first) (length long) t)
+    (told-cond (contains t a) (told-says long (a % blockSize) _) (told-refused 3 (lit< tt) (lit≤ tt)))
+    (told-refused 1 (lit< tt) (lit≤ tt))
 
--- an answer from its number
-pub unpacked : (r : Answer) (n : ℕ) → Small r → n ≡ packed r → unpackedOf n ≡ r
-unpacked r n s e =
-    let c : n / answerRadix ≡ r .code = omega (arith, s .hop) in
-    let h : n % answerRadix ≡ r .hop = omega (arith, s .hop) in
-    λ i. record { code = c i; hop = h i }
+-- ---- an answer as one number
+
+-- what has a number's two parts is the answer that it holds
+pub parts : (r : Answer) (n : ℕ) → r .code ≡ n / answerRadix → r .hop ≡ n % answerRadix → r ≡ unpackedOf n
+parts r n c h = λ i. record { code = c i; hop = h i }
+
+-- the number tells the answer, and is no pointer
+pub unpacked : {r : Answer} {n : ℕ} → Told r → n ≡ packed r → unpackedOf n ≡ r
+unpacked {r} {n} T e = sym (parts r n (omega (arith, T .hop)) (omega (arith, T .hop)))
+
+pub no-pointer : {r : Answer} → Told r → pointerBit ≤ packed r → ⊥
+no-pointer T p = omega (arith, T .code, T .hop)

@@ -1,20 +1,20 @@
--- The words that an update leaves, passed as their bytes: look up from C answers what look up answers on the words. Assumes nothing.
+-- The words that an update leaves, passed as their bytes: look up from C answers what look up answers on the words. (256, 65536 and
+-- 16777216 are the weights of bytes.) Assumes nothing.
 use mathlib.Core.Path.{_≡_, refl, ap, ap₂, _∙_}
 use mathlib.Core.List.{List, [], _∷_}
-use Prim.Native.Nat.{ℕ, suc, _+_, _*_, _/_, _%_}
+use Prim.Native.Nat.{ℕ, suc, _*_, _/_, _%_}
 use native.Mathlib.Omega.{arith}
 use lib.ListN.{length}
 use Rattle.ground.proofs.Tests.{and?, eqb?, cond-on}
 use Rattle.prefix.specs.declared.Prefix.{Prefix}
 use Rattle.lookup.specs.Lookup.{refused, packed, lookUp}
-use Rattle.lookup.specs.Bytes.{words, bytesOf, lookUpBytes}
+use Rattle.lookup.specs.Bytes.{spelt, words, bytesOf, lookUpBytes}
 
 words-bytes : (ws : List ℕ) → words (bytesOf ws) ≡ ws
 unfolding words bytesOf
 words-bytes [] = refl
 words-bytes (w ∷ ws) =
-    let spelt : w % 256 + w / 256 % 256 * 256 + w / 65536 % 256 * 65536 + w / 16777216 * 16777216 ≡ w = omega arith in
-    ap₂ _∷_ spelt (words-bytes ws)
+    let whole : spelt (w % 256) (w / 256 % 256) (w / 65536 % 256) (w / 16777216) ≡ w = omega arith in ap₂ _∷_ whole (words-bytes ws)
 
 length-bytes : (ws : List ℕ) → length (bytesOf ws) ≡ 4 * length ws
 unfolding bytesOf

@@ -1,20 +1,18 @@
 -- Where a call may read: what is lent, the territory, and the block of an address in it. Assumes nothing.
-use mathlib.Core.Path.{_≡_, refl, sym, ap, subst, _∙_}
+use mathlib.Core.Path.{_≡_, refl, sym, ap, _∙_}
 use mathlib.Core.Bool.{Bool, true, false, cond}
-use Prim.Native.Nat.{ℕ, _+_, _-_, _*_, _%_, _^_, _≤_, _<_}
-use native.Mathlib.Nat.{mod-lt, mod-le}
+use Prim.Native.Nat.{ℕ, _≤_, _<_}
 use native.Mathlib.Omega.{arith}
 use lib.Dec.{lit≤}
-use lib.Pow.{pow-add, pow-pos}
-use Rattle.ground.proofs.Tests.{Decides, holds, fails, leb?, eqb?, and?, iff?, cond-on}
+use Rattle.ground.proofs.Tests.{Decides, holds, fails, cond-on}
 use Rattle.cells.proofs.Lending.{LentToRead, lentToRead?}
 use Rattle.prefix.specs.declared.Prefix.{Prefix}
-use Rattle.prefix.specs.Prefixes.{span, top, clearedOf, contains, WellFormed, Contains}
-use Rattle.prefix.specs.Geometry.{Territory, blocks, blockOf}
-use Rattle.prefix.proofs.Prefixes.{contains?, kept, address-of, in-range, by-range}
-use Rattle.prefix.proofs.Spans.{isTerritory?, block-inside}
+use Rattle.prefix.specs.Prefixes.{contains, Contains}
+use Rattle.prefix.specs.Geometry.{blockOf}
+use Rattle.prefix.proofs.Prefixes.{contains?, in-range}
+use Rattle.prefix.proofs.Spans.{block-inside}
 use Rattle.cells.specs.Memory.{lentToRead}
-use Rattle.lookup.specs.Lookup.{standingOf}
+use Rattle.lookup.specs.inner.Standing.{standingOf}
 
 -- ---- the refusal that comes before any cell is read
 
@@ -35,9 +33,9 @@ module _ {first long : ℕ} {t : Prefix} {a : ℕ} (s : Stands first long t a) w
 abbrev number : Bool → Bool → ℕ
 number lent inside = cond lent (cond inside 0 3) 1
 
-pub stands : (first long : ℕ) (t : Prefix) (a : ℕ) → standingOf first long t a ≡ 0 → Stands first long t a
+pub stands : {first long : ℕ} {t : Prefix} {a code : ℕ} → code ≡ standingOf first long t a → code ≡ 0 → Stands first long t a
 unfolding standingOf
-stands first long t a = go (lentToRead? first long t) (contains? t a)
+stands {first} {long} {t} {a} e z = go (lentToRead? first long t) (contains? t a) (sym e ∙ z)
   where
     go : {x y : Bool} → Decides (LentToRead first long t) x → Decides (Contains t a) y → number x y ≡ 0 → Stands first long t a
     go (holds l) (holds c) e = record { lent = l; inside = c }

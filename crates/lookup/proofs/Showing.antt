@@ -1,27 +1,25 @@
 -- What the number of show says of the tables, and the part that is shown, one law for each case. Assumes nothing.
-use mathlib.Core.Path.{_≡_, sym, ap, ap₂, _∙_}
-use mathlib.Core.Bool.{Bool, cond, _&&_}
+use mathlib.Core.Path.{_≡_, refl, sym, ap, ap₂, _∙_}
+use mathlib.Core.Bool.{_&&_}
 use mathlib.Core.List.{List, []}
 use Prim.Native.Nat.{ℕ, _+_, _-_, _*_, _/_, _≤_, _<_}
 use native.Mathlib.Nat.{zero-add}
 use native.Mathlib.Omega.{arith}
 use lib.Dec.{leb}
 use lib.ListN.{length}
-use Rattle.ground.proofs.Tests.{Decides, holds, fails, leb?, eqb?, and?, iff?, cond-on, cond-off}
-use Rattle.ground.proofs.Cases.{by-lt}
+use Rattle.ground.proofs.Tests.{Decides, leb?, eqb?, and?, iff?, cond-on, cond-off}
+use Rattle.ground.proofs.Cases.{by-lt, by-eq}
 use Rattle.prefix.specs.declared.Prefix.{Prefix}
-use Rattle.prefix.specs.Prefixes.{Contains}
-use Rattle.prefix.proofs.Prefixes.{contains?}
 use Rattle.cells.specs.Cells.{pointerBit, isPointer, segmentOf}
-use Rattle.prefix.specs.Geometry.{blockOf}
+use Rattle.prefix.specs.Geometry.{blockSize, blockOf}
+use Rattle.lookup.specs.inner.Standing.{standingOf}
 use Rattle.lookup.specs.Show.{Run, part, firstCell, showCode, shown}
-use Rattle.cells.proofs.Lending.{LentToRead, lentToRead?}
-use Rattle.lookup.proofs.Reading.{Stands}
+use Rattle.lookup.proofs.Reading.{Stands, stands, goes-on, stops-at}
 
 -- the first cell is a pointer to a segment that is not lent
 pub record Astray (first long : List ℕ) (t : Prefix) (a : ℕ) : Type 0 where
   pub pointer : pointerBit ≤ firstCell first t a
-  pub not-lent : length long / 256 ≤ segmentOf (firstCell first t a)
+  pub not-lent : length long / blockSize ≤ segmentOf (firstCell first t a)
 
 -- there is a part to show
 pub record Shows (first long : List ℕ) (t : Prefix) (a : ℕ) : Type 0 where
@@ -29,53 +27,53 @@ pub record Shows (first long : List ℕ) (t : Prefix) (a : ℕ) : Type 0 where
   pub lent : Astray first long t a → ⊥
 
 module _ (first long : List ℕ) (t : Prefix) (a : ℕ) where
-  pub astray? : Decides (Astray first long t a) (isPointer (firstCell first t a) && leb (length long / 256) (segmentOf (firstCell first t a)))
+  astray? : Decides (Astray first long t a) (isPointer (firstCell first t a) && leb (length long / blockSize) (segmentOf (firstCell first t a)))
   astray? =
-      iff? (and? (leb? pointerBit (firstCell first t a)) (leb? (length long / 256) (segmentOf (firstCell first t a))))
+      iff? (and? (leb? pointerBit (firstCell first t a)) (leb? (length long / blockSize) (segmentOf (firstCell first t a))))
       (λ h. record { pointer = h .0; not-lent = h .1 })
       (λ s. (s .pointer, s .not-lent))
 
+  -- the number, by whether the first cell points astray
+  pub refuses : Stands (length first) (length long) t a → Astray first long t a → 4 ≡ showCode first long t a
+  unfolding showCode
+  refuses s h = sym (cond-on 4 0 astray? h) ∙ goes-on (λ n. n) _ _ _ _ _ s
+
+  pub accepts : Stands (length first) (length long) t a → (Astray first long t a → ⊥) → 0 ≡ showCode first long t a
+  unfolding showCode
+  accepts s n = sym (cond-off 4 0 astray? n) ∙ goes-on (λ n. n) _ _ _ _ _ s
+
   pub shows : showCode first long t a ≡ 0 → Shows first long t a
   unfolding showCode
-  shows = go (lentToRead? (length first) (length long) t) (contains? t a) astray?
-    where
-      number : Bool → Bool → Bool → ℕ
-      number x y z = cond x (cond y (cond z 4 0) 3) 1
-
-      go : {x y z : Bool} → Decides (LentToRead (length first) (length long) t) x → Decides (Contains t a) y → Decides (Astray first long t a) z
-          → number x y z ≡ 0 → Shows first long t a
-      go (holds l) (holds c) (fails n) e = record { stands = record { lent = l; inside = c }; lent = n }
-      go (holds l) (holds c) (holds s) e = absurd (omega arith)
-      go (holds l) (fails n) d e = absurd (omega arith)
-      go (fails n) c d e = absurd (omega arith)
+  shows z =
+      let read =
+      by-eq (standingOf (length first) (length long) t a) 0 (stands refl)
+      (λ n. absurd (n (stops-at (λ k. k) (length first) (length long) t a _ _ refl n ∙ z))) in
+      record { stands = read; lent = λ s. omega (arith, z, refuses read s) }
 
 -- a pointer's segment is lent
 pub segment-lent : {first long : List ℕ} {t : Prefix} {a : ℕ} → Shows first long t a → pointerBit ≤ firstCell first t a
-    → segmentOf (firstCell first t a) < length long / 256
+    → segmentOf (firstCell first t a) < length long / blockSize
 segment-lent {first} {long} {t} {a} s p =
-    by-lt (segmentOf (firstCell first t a)) (length long / 256) (λ l. l) (λ h. absurd (s .lent (record { pointer = p; not-lent = h })))
+    by-lt (segmentOf (firstCell first t a)) (length long / blockSize) (λ l. l) (λ h. absurd (s .lent (record { pointer = p; not-lent = h })))
 
 module _ (first long : Run) (t : Prefix) (a : ℕ) where
-  pub shown-none : (showCode (first .cells) (long .cells) t a ≡ 0 → ⊥) → record { place = first .place; cells = [] } ≡ shown first long t a
-  unfolding shown
-  shown-none n =
-      sym (cond-off _ _ (eqb? (showCode (first .cells) (long .cells) t a) 0) n
-      ∙ ap (λ (offset : ℕ). record { place = (first .place .0, offset); cells = [] }) (zero-add (first .place .1)))
-
-  -- the same of the empty part at a place that is the first table's start
-  pub shown-none-at : (memory offset : ℕ) → memory ≡ first .place .0 → offset ≡ first .place .1 → (showCode (first .cells) (long .cells) t a ≡ 0 → ⊥)
+  -- the empty part at the first table's start
+  pub shown-none : (memory offset : ℕ) → memory ≡ first .place .0 → offset ≡ first .place .1 → (showCode (first .cells) (long .cells) t a ≡ 0 → ⊥)
       → record { place = (memory, offset); cells = [] } ≡ shown first long t a
-  shown-none-at memory offset m o n = ap₂ (λ (x y : ℕ). record { place = (x, y); cells = [] }) m o ∙ shown-none n
+  unfolding shown
+  shown-none memory offset m o n =
+      ap₂ (λ (x y : ℕ). record { place = (x, y); cells = [] }) m (o ∙ sym (zero-add (first .place .1)))
+      ∙ sym (cond-off _ _ (eqb? (showCode (first .cells) (long .cells) t a) 0) n)
 
   module _ (e : showCode (first .cells) (long .cells) t a ≡ 0) where
-    pub shown-cell : firstCell (first .cells) t a < pointerBit → part first (blockOf t a) 1 ≡ shown first long t a
+    pub shown-cell : (pointerBit ≤ firstCell (first .cells) t a → ⊥) → part first (blockOf t a) 1 ≡ shown first long t a
     unfolding shown
-    shown-cell h =
+    shown-cell n =
         sym (cond-on _ _ (eqb? (showCode (first .cells) (long .cells) t a) 0) e
-        ∙ cond-off _ _ (leb? pointerBit (firstCell (first .cells) t a)) (λ p. omega arith))
+        ∙ cond-off _ _ (leb? pointerBit (firstCell (first .cells) t a)) n)
 
     pub shown-segment : pointerBit ≤ firstCell (first .cells) t a
-        → part long (segmentOf (firstCell (first .cells) t a) * 256) 256 ≡ shown first long t a
+        → part long (segmentOf (firstCell (first .cells) t a) * blockSize) blockSize ≡ shown first long t a
     unfolding shown
     shown-segment h =
         sym (cond-on _ _ (eqb? (showCode (first .cells) (long .cells) t a) 0) e

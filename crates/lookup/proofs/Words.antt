@@ -6,7 +6,8 @@ use native.Mathlib.Omega.{arith}
 use lib.ListN.{length, getD}
 use Rattle.ground.proofs.Tests.{eqb?, and?, cond-on, cond-off}
 use Rattle.prefix.specs.declared.Prefix.{Prefix}
-use Rattle.lookup.specs.Lookup.{standingOf, lookUp, packed}
+use Rattle.lookup.specs.Lookup.{refused, lookUp, packed}
+use Rattle.lookup.specs.inner.Standing.{standingOf}
 use Rattle.lookup.specs.Bytes.{spelt, words, lookUpBytes}
 
 pub length-words : (s : List ℕ) → length (words s) ≡ length s / 4
@@ -41,7 +42,7 @@ getD-words [] i h = absurd (omega arith)
 
 module _ (first long : List ℕ) (t : Prefix) (a : ℕ) where
   -- a length is no multiple of 4
-  pub not-whole : ((length first % 4 ≡ 0) × (length long % 4 ≡ 0) → ⊥) → 65536 ≡ lookUpBytes first long t a
+  pub not-whole : ((length first % 4 ≡ 0) × (length long % 4 ≡ 0) → ⊥) → packed (refused 1) ≡ lookUpBytes first long t a
   unfolding lookUpBytes
   not-whole n = sym (ap packed (cond-off _ _ (and? (eqb? (length first % 4) 0) (eqb? (length long % 4) 0)) n))
 

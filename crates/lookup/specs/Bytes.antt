@@ -7,6 +7,7 @@ use lib.ListN.{length}
 use Rattle.prefix.specs.declared.Prefix.{Prefix}
 use Rattle.lookup.specs.Lookup.{refused, packed, lookUp}
 
+-- the word that four bytes spell: 256, 65536 and 16777216 are the weights of bytes, here and below
 abbrev pub spelt : ℕ → ℕ → ℕ → ℕ → ℕ
 spelt a b c d = a + b * 256 + c * 65536 + d * 16777216
 

@@ -1,4 +1,5 @@
--- What look up and show answer, on any memory.
+-- What look up and show answer, on any memory; in `inner`, what serves inner functions.
 pub mod Lookup
 pub mod Show
 pub mod Bytes
+pub mod inner

@@ -19,10 +19,6 @@ refused code = record { code = code; hop = 0 }
 abbrev pub found : ℕ → Answer
 found hop = record { code = 0; hop = hop }
 
--- the number of the refusal that comes before any cell is read, or 0
-unfoldable pub standingOf : ℕ → ℕ → Prefix → ℕ → ℕ
-standingOf first long t a = cond (lentToRead first long t) (cond (contains t a) 0 3) 1
-
 -- what the deciding cell says: 0 is no route, a direct cell its hop, and anything else is damage
 abbrev pub directOrDamage : ℕ → ℕ → Answer
 directOrDamage longest cell = cond (isDirect longest cell) (found (hopOf cell)) (refused 4)

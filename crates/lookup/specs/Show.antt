@@ -9,7 +9,7 @@ use Rattle.prefix.specs.declared.Prefix.{Prefix}
 use Rattle.prefix.specs.Prefixes.{contains}
 use Rattle.cells.specs.Cells.{isPointer, segmentOf}
 use Rattle.cells.specs.Memory.{lentToRead}
-use Rattle.prefix.specs.Geometry.{blockOf}
+use Rattle.prefix.specs.Geometry.{blockSize, blockOf}
 
 -- the cell of the first table for the block that holds the address
 abbrev pub firstCell : List ℕ → Prefix → ℕ → ℕ
@@ -34,7 +34,7 @@ seen r = record { place = r .ptr; cells = r .now }
 abbrev pub part : Run → ℕ → ℕ → Run
 part r start count = record { place = (r .place .0, start * 4 + r .place .1); cells = take count (drop start (r .cells)) }
 
--- the 256 cells of the segment that the first cell points to, or the one first cell; with a refusal none, at the start of the first table
+-- all cells of the segment that the first cell points to, or the one first cell; with a refusal none, at the start of the first table
 unfoldable pub shown : Run → Run → Prefix → ℕ → Run
 shown first long t a =
     let cell = firstCell (first .cells) t a in

@@ -13,7 +13,10 @@ use prefix::Prefix;
 use prefix::geometry::Block;
 use prefix::geometry::block_of;
 
-// A word from its bytes, the lowest first.
+// So many bytes are in a segment.
+const SEGMENT: usize = 4 * Block::CELLS;
+
+// A word from its bytes, the lowest first. 256, 65536 and 16777216 are the weights of bytes.
 fn spell(a: u8, b: u8, c: u8, d: u8) -> u32
     ensures { λ r. ⌜ r ≡ spelt a b c d ⌝ }
 {
@@ -38,8 +41,8 @@ fn says_bytes(long: &[u8], low: usize, cell: u32) -> u32
         return verdict(cell, Block::WIDTH);
     }
     let segment = Cell::segment(cell);
-    if long.len() / (4 * Block::CELLS) <= segment {
-        return Answer::refusal(4);
+    if long.len() / SEGMENT <= segment {
+        return Answer::DAMAGE;
     }
     verdict(word(long, segment * Block::CELLS + low), 32)
 }
@@ -50,10 +53,10 @@ pub fn look_up_bytes(first: &[u8], long: &[u8], territory: Prefix, address: u32)
     ensures { λ r. ⌜ r ≡ lookUpBytes (now (first .entry)) (now (long .entry)) territory address ⌝ }
 {
     if first.len() % 4 != 0 {
-        return Answer::refusal(1);
+        return Answer::NOT_LENT;
     }
     if long.len() % 4 != 0 {
-        return Answer::refusal(1);
+        return Answer::NOT_LENT;
     }
     let code = standing(first.len() / 4, long.len() / 4, territory, address);
     if code != 0 {

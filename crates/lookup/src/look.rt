@@ -2,7 +2,8 @@
 ghost use mathlib.Core.Path.{_≡_};
 ghost use Prim.Native.Nat.{_<_};
 ghost use Rattle.prefix.specs.Geometry.{blockSize};
-ghost use Rattle.lookup.specs.Lookup.{answerRadix, refused, packed, unpackedOf, standingOf, directOrDamage, verdictOf, saysOf, lookUp};
+ghost use Rattle.lookup.specs.Lookup.{answerRadix, refused, packed, unpackedOf, directOrDamage, verdictOf, saysOf, lookUp};
+ghost use Rattle.lookup.specs.inner.Standing.{standingOf};
 use cells::cell::Cell;
 use cells::sizes::Most;
 use prefix::Prefix;
@@ -20,8 +21,16 @@ pub struct Answer {
 // An answer as the one number code * RADIX + hop: no other file knows how it is made.
 impl Answer {
     const RADIX: u32 = 65536;
+    // Refusal 1, what is lent is not right.
+    pub const NOT_LENT: u32 = Answer::RADIX;
+    // Refusal 3, the address is outside the territory.
+    pub const OUTSIDE: u32 = 3 * Answer::RADIX;
+    // Refusal 4, damage.
+    pub const DAMAGE: u32 = 4 * Answer::RADIX;
+    // Refusal 8, no route.
+    pub const NO_ROUTE: u32 = 8 * Answer::RADIX;
 
-    // A refusal.
+    // Any refusal.
     pub fn refusal(code: u32) -> u32
         requires { ⌜ code < answerRadix ⌝ }
         ensures { λ r. ⌜ r ≡ packed (refused code) ⌝ }
@@ -74,7 +83,7 @@ fn direct_or_damage(cell: u32, longest: u32) -> u32
     if Cell::is_direct(cell, longest) {
         return Cell::hop(cell);
     }
-    Answer::refusal(4)
+    Answer::DAMAGE
 }
 
 // What a deciding cell says, as one number. Whether it is 0 is asked last, so that the answer is selected and not jumped to: no
@@ -84,7 +93,7 @@ pub fn verdict(cell: u32, longest: u32) -> u32
 {
     let number = direct_or_damage(cell, longest);
     if cell == Cell::EMPTY {
-        Answer::refusal(8)
+        Answer::NO_ROUTE
     } else {
         number
     }
@@ -100,7 +109,7 @@ pub fn says(long: &[u32], low: usize, cell: u32) -> u32
     }
     let segment = Cell::segment(cell);
     if long.len() / Block::CELLS <= segment {
-        return Answer::refusal(4);
+        return Answer::DAMAGE;
     }
     verdict(long[segment * Block::CELLS + low], 32)
 }

@@ -25,8 +25,8 @@ pub fn show_code(first: &[u32], long: &[u32], territory: Prefix, address: u32) -
     0
 }
 
-// The part: the one cell of the first table, or the 256 cells of the segment that it points to; with any refusal the empty part at
-// the start of the first table.
+// The part: the one cell of the first table, or all cells of the segment that it points to; with any refusal the empty part at the
+// start of the first table.
 pub fn show_cells<'a>(
     first: &'a [u32],
     long: &'a [u32],

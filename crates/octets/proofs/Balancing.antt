@@ -14,12 +14,12 @@ use Rattle.ground.proofs.Cases.{by-eq}
 use Rattle.ground.proofs.Tests.{eqb?, cond-on, cond-off}
 use Rattle.prefix.specs.declared.Prefix.{Prefix}
 use Rattle.lookup.specs.declared.look.Answer.{Answer}
-use Rattle.lookup.proofs.Answers.{small-look}
+use Rattle.lookup.proofs.Answers.{Told, told-look}
 use Rattle.octets.specs.Words.{wordCount, most}
 use Rattle.octets.specs.Booking.{Outcome, clearOctets}
 use Rattle.octets.specs.Many.{each, bookEach}
-use Rattle.octets.specs.Bookings.{Bookings, none, _booking_, bookFlow, wordsAfter, isAccepted, names, answerTo, octetsFor, octetsAll, alsoAll, Balances}
-use Rattle.octets.proofs.Entering.{Told, told-look, names?, Did, took, left, did-book, did-long, not-gained}
+use Rattle.octets.specs.Bookings.{Bookings, none, _booking_, wordsAfter, isAccepted, names, answerTo, octetsFor, octetsAll, alsoAll, Balances}
+use Rattle.octets.proofs.Entering.{names?, Did, took, left, did-book, did-long, not-gained}
 
 -- ---- one booking
 
@@ -31,9 +31,9 @@ gained o amount = cond (eqb (o .code) 0) amount 0
 abbrev gainedBy : Outcome → Answer → ℕ → ℕ → ℕ
 gainedBy o r amount h = cond (eqb (o .code) 0 && names r h) amount 0
 
-module _ (r : Answer) (T : Told r) (small : r .hop ≤ 32767) (amount : ℕ) (words : List ℕ) (long : length words ≡ wordCount) where
+module _ (r : Answer) (T : Told r) (amount : ℕ) (words : List ℕ) (long : length words ≡ wordCount) where
   hop-lent : r .hop < length words
-  hop-lent = omega arith
+  hop-lent = omega (arith, T .hop)
 
   each-gains : {o : Outcome} → Did r amount words o → (h : ℕ) → getD (o .words) h 0 ≡ getD words h 0 + gainedBy o r amount h
   each-gains (took z l) h =
@@ -52,7 +52,7 @@ module _ (r : Answer) (T : Told r) (small : r .hop ≤ 32767) (amount : ℕ) (wo
       let new = set words at (getD words at 0 + amount) in
       omega (
         arith,
-        sum-change wordCount (λ h. getD new h 0) (λ h. getD words h 0) at (omega arith) (λ k m n. getD-set-other words at k (getD words at 0 + amount) 0 n),
+        sum-change wordCount (λ h. getD new h 0) (λ h. getD words h 0) at (omega (arith, T .hop)) (λ k m n. getD-set-other words at k (getD words at 0 + amount) 0 n),
         getD-set-same words at (getD words at 0 + amount) 0 hop-lent,
       )
   all-gain (left code n) = omega (arith, cond-off amount 0 (eqb? code 0) n)
@@ -76,7 +76,7 @@ module _ (w : List ℕ) (lent : length w ≡ wordCount) where
   unfolding wordsAfter clearOctets
   cleared = ap (λ (o : Outcome). o .words) (cond-on _ _ (eqb? (length w) wordCount) lent)
 
-  pub words-long : (b : Bookings) → length (wordsAfter w b) ≡ wordCount
+  words-long : (b : Bookings) → length (wordsAfter w b) ≡ wordCount
   unfolding wordsAfter
   words-long none = ap length cleared ∙ length-replicate {A = ℕ} wordCount 0
   words-long (b booking f) =
@@ -97,15 +97,13 @@ module _ (w : List ℕ) (lent : length w ≡ wordCount) where
       let B = balances b in
       let r = answerTo f in
       let T = told-look (f .first) (f .long) (f .territory) (f .address) in
-      let small = small-look (f .first) (f .long) (f .territory) (f .address) .hop in
       let words = wordsAfter w b in
       let long = words-long b in
       let D = did-book (f .first) (f .long) (f .territory) (f .address) (f .amount) words in
       record {
-        each-word = λ h m.
-            each-gains r T small (f .amount) words long D h ∙ ap (λ (k : ℕ). k + gainedBy (bookFlow f words) r (f .amount) h) (B .each-word h m);
-        all-words = all-gain r T small (f .amount) words long D ∙ ap (λ (k : ℕ). k + gained (bookFlow f words) (f .amount)) (B .all-words);
-        no-more = each-fits r T small (f .amount) words long D (B .no-more);
+        each-word = λ h m. omega (arith, each-gains r T (f .amount) words long D h, B .each-word h m);
+        all-words = omega (arith, all-gain r T (f .amount) words long D, B .all-words);
+        no-more = each-fits r T (f .amount) words long D (B .no-more);
       }
 
 -- A call for many is so many bookings of a history: what it leaves of the words is what they leave.

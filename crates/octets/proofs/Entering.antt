@@ -1,20 +1,17 @@
 -- What booking by an answer of look up answers and leaves, one law for each way out; and what an answer of look up names. Assumes nothing.
-use mathlib.Core.Path.{_≡_, refl, sym, ap, _∙_}
-use mathlib.Core.Bool.{Bool, true, false, cond, _&&_}
+use mathlib.Core.Path.{_≡_, refl, sym, ap, subst, _∙_}
+use mathlib.Core.Bool.{Bool, cond, _&&_}
 use mathlib.Core.List.{List, _++_, append-nil}
-use Prim.Native.Nat.{ℕ, _+_, _/_, _%_, _≤_, _<_}
+use Prim.Native.Nat.{ℕ, _+_, _≤_, _<_}
 use native.Mathlib.Omega.{arith}
-use lib.Dec.{ltb, eqb, leb, lit<}
+use lib.Dec.{eqb}
 use lib.ListN.{length, getD, set, drop, replicate, length-set, drop-of-length-le}
-use Rattle.ground.proofs.Tests.{Decides, holds, fails, leb?, eqb?, and?, iff?, stops, cond-on, cond-off}
+use Rattle.ground.proofs.Tests.{Decides, holds, fails, leb?, eqb?, and?, iff?, stops, by-test, cond-on, cond-off}
 use Rattle.ground.proofs.Cases.{by-eq}
 use Rattle.prefix.specs.declared.Prefix.{Prefix}
-use Rattle.prefix.specs.Prefixes.{contains}
 use Rattle.lookup.specs.declared.look.Answer.{Answer}
-use Rattle.cells.specs.Cells.{empty, hopOf, isPointer, segmentOf}
-use Rattle.lookup.specs.Lookup.{refused as no-hop, found, verdictOf, saysOf, lookUp}
-use Rattle.cells.specs.Memory.{lentToRead}
-use Rattle.cells.proofs.Direct.{Direct, isDirect?}
+use Rattle.lookup.specs.Lookup.{lookUp}
+use Rattle.lookup.proofs.Answers.{Told}
 use Rattle.octets.specs.Words.{wordCount, most}
 use Rattle.octets.specs.Booking.{Outcome, refused, clearOctets, addTo, refusalOf, enter, book}
 use Rattle.octets.specs.Bookings.{names}
@@ -47,10 +44,11 @@ module _ (answer : Answer) (amount : ℕ) (words : List ℕ) where
     too-much h =
         sym (cond-on _ _ (eqb? (refusalOf (answer .code)) 0) z ∙ cond-off _ _ (leb? (getD words (answer .hop) 0 + amount) most) (λ l. omega arith))
 
-    pub entered : getD words (answer .hop) 0 + amount ≤ most
-        → record { code = 0; words = set words (answer .hop) (getD words (answer .hop) 0 + amount) } ≡ enter answer amount words
+    pub entered : (v : ℕ) → v ≡ getD words (answer .hop) 0 + amount → v ≤ most → record { code = 0; words = set words (answer .hop) v } ≡ enter answer amount words
     unfolding enter addTo
-    entered h = sym (cond-on _ _ (eqb? (refusalOf (answer .code)) 0) z ∙ cond-on _ _ (leb? (getD words (answer .hop) 0 + amount) most) h)
+    entered v e h =
+        ap (λ (k : ℕ). record { code = 0; words = set words (answer .hop) k }) e
+        ∙ sym (cond-on _ _ (eqb? (refusalOf (answer .code)) 0) z ∙ cond-on _ _ (leb? (getD words (answer .hop) 0 + amount) most) (omega arith))
 
 module _ (first long : List ℕ) (t : Prefix) (a amount : ℕ) (words : List ℕ) where
   pub wrong-words : (length words ≡ wordCount → ⊥) → refused 1 words ≡ book first long t a amount words
@@ -64,72 +62,22 @@ module _ (first long : List ℕ) (t : Prefix) (a amount : ℕ) (words : List ℕ
 
 -- ---- what an answer of look up names
 
--- a refusal has no hop, and what is no refusal has one
-pub record Told (r : Answer) : Type 0 where
-  pub refusal : (r .code ≡ 0 → ⊥) → r .hop ≡ 0
-  pub route : r .code ≡ 0 → 0 < r .hop
-
-told-refused : (code : ℕ) → 0 < code → Told (no-hop code)
-told-refused code h = record { refusal = λ n. refl; route = λ e. absurd (omega arith) }
-
-told-cond : (t : Bool) {x y : Answer} → Told x → Told y → Told (cond t x y)
-told-cond true p q = p
-told-cond false p q = q
-
-told-verdict : (longest cell : ℕ) → Told (verdictOf longest cell)
-unfolding verdictOf
-told-verdict longest cell = told-cond (eqb cell empty) (told-refused 8 (lit< tt)) (go (isDirect? longest cell))
-  where
-    go : {t : Bool} → Decides (Direct longest cell) t → Told (cond t (found (hopOf cell)) (no-hop 4))
-    go (holds d) = record { refusal = λ n. absurd (n refl); route = λ e. d .some-hop }
-    go (fails n) = told-refused 4 (lit< tt)
-
-told-says : (long : List ℕ) (low cell : ℕ) → Told (saysOf long low cell)
-unfolding saysOf
-told-says long low cell =
-    told-cond (isPointer cell)
-    (told-cond (ltb (segmentOf cell) (length long / 256)) (told-verdict 32 _) (told-refused 4 (lit< tt)))
-    (told-verdict 24 cell)
-
-pub told-look : (first long : List ℕ) (t : Prefix) (a : ℕ) → Told (lookUp first long t a)
-unfolding lookUp
-told-look first long t a =
-    told-cond (lentToRead (length first) (length long) t)
-    (told-cond (contains t a) (told-says long (a % 256) _) (told-refused 3 (lit< tt)))
-    (told-refused 1 (lit< tt))
-
 -- a code that refuses no record is 0 or 8
-pub no-refusal : {C : Type 0} (code : ℕ) → refusalOf code ≡ 0 → (code ≡ 0 → C) → (code ≡ 8 → C) → C
+no-refusal : {C : Type 0} (code : ℕ) → refusalOf code ≡ 0 → (code ≡ 0 → C) → (code ≡ 8 → C) → C
 unfolding refusalOf
 no-refusal code z zero eight = by-eq code 8 eight (λ n. zero (sym (cond-off 0 code (eqb? code 8) n) ∙ z))
 
--- what `names` tests, at word 0 and at another
-abbrev Named : Answer → ℕ → Type 0
-Named r h = (h ≡ 0 → Decides (h ≡ r .hop) (eqb (r .code) 8)) × ((h ≡ 0 → ⊥) → Decides (h ≡ r .hop) (eqb (r .code) 0 && eqb (r .hop) h))
-
 -- the word that an answer names is that of its hop
 pub names? : (r : Answer) → Told r → refusalOf (r .code) ≡ 0 → (h : ℕ) → Decides (h ≡ r .hop) (names r h)
-names? r T z h =
-    no-refusal (r .code) z
-    (λ e. go (eqb? h 0) (routed e))
-    (λ e. go (eqb? h 0) (unrouted e))
+names? r T z h = go (eqb? h 0)
   where
-    go : {t : Bool} → Decides (h ≡ 0) t → Named r h → Decides (h ≡ r .hop) (cond t (eqb (r .code) 8) (eqb (r .code) 0 && eqb (r .hop) h))
-    go (holds q) f = f .0 q
-    go (fails n) f = f .1 n
-
-    routed : r .code ≡ 0 → Named r h
-    routed e = (
-      λ q. iff? (eqb? (r .code) 8) (λ f. absurd (omega arith)) (λ p. absurd (omega (arith, T .route e))),
-      λ n. iff? (and? (eqb? (r .code) 0) (eqb? (r .hop) h)) (λ p. sym (p .1)) (λ p. (e, sym p)),
-    )
-
-    unrouted : r .code ≡ 8 → Named r h
-    unrouted e =
-        let n0 : r .code ≡ 0 → ⊥ = λ q. omega arith in (
-          λ q. iff? (eqb? (r .code) 8) (λ f. q ∙ sym (T .refusal n0)) (λ p. e),
-          λ n. iff? (and? (eqb? (r .code) 0) (eqb? (r .hop) h)) (λ p. absurd (n0 (p .0))) (λ p. absurd (n (p ∙ T .refusal n0))),
-        )
+    go : {t : Bool} → Decides (h ≡ 0) t → Decides (h ≡ r .hop) (cond t (eqb (r .code) 8) (eqb (r .code) 0 && eqb (r .hop) h))
+    go (holds q) =
+        iff? (eqb? (r .code) 8) (λ e. q ∙ sym (T .refusal (λ o. omega arith)))
+        (λ p. no-refusal (r .code) z (λ e. absurd (omega (arith, T .route e))) (λ e. e))
+    go (fails n) =
+        iff? (and? (eqb? (r .code) 0) (eqb? (r .hop) h)) (λ p. sym (p .1))
+        (λ p. no-refusal (r .code) z (λ e. (e, sym p)) (λ e. absurd (n (p ∙ T .refusal (λ o. omega arith)))))
 
 -- ---- one booking, by what it does to the words
 
@@ -140,26 +88,19 @@ pub data Did (r : Answer) (amount : ℕ) (words : List ℕ) : Outcome → Type 0
   left : (code : ℕ) → (code ≡ 0 → ⊥) → Did r amount words (refused code words)
 
 pub did-enter : (r : Answer) (amount : ℕ) (words : List ℕ) → Did r amount words (enter r amount words)
-unfolding enter addTo
-did-enter r amount words = go (eqb? (refusalOf (r .code)) 0) (leb? (getD words (r .hop) 0 + amount) most)
-  where
-    go : {s t : Bool} → Decides (refusalOf (r .code) ≡ 0) s → Decides (getD words (r .hop) 0 + amount ≤ most) t
-        → Did r amount words (cond s
-        (cond t (record { code = 0; words = set words (r .hop) (getD words (r .hop) 0 + amount) }) (refused 30 words))
-        (refused (refusalOf (r .code)) words))
-    go (holds z) (holds l) = took z l
-    go (holds z) (fails n) = left 30 (λ e. omega arith)
-    go (fails n) d = left (refusalOf (r .code)) n
+did-enter r amount words =
+    by-test (eqb? (refusalOf (r .code)) 0)
+    (λ z. by-test (leb? (getD words (r .hop) 0 + amount) most)
+    (λ l. subst (Did r amount words) (entered r amount words z _ refl l) (took z l))
+    (λ n. subst (Did r amount words) (too-much r amount words z (omega arith)) (left 30 (λ e. omega arith))))
+    (λ n. subst (Did r amount words) (turned-away r amount words refl n) (left (refusalOf (r .code)) n))
 
 pub did-book : (first long : List ℕ) (t : Prefix) (a amount : ℕ) (words : List ℕ)
     → Did (lookUp first long t a) amount words (book first long t a amount words)
-unfolding book
-did-book first long t a amount words = go (eqb? (length words) wordCount)
-  where
-    go : {s : Bool} → Decides (length words ≡ wordCount) s
-        → Did (lookUp first long t a) amount words (cond s (enter (lookUp first long t a) amount words) (refused 1 words))
-    go (holds e) = did-enter (lookUp first long t a) amount words
-    go (fails n) = left 1 (λ e. omega arith)
+did-book first long t a amount words =
+    by-test (eqb? (length words) wordCount)
+    (λ e. subst (Did (lookUp first long t a) amount words) (booked first long t a amount words e refl refl) (did-enter _ amount words))
+    (λ n. subst (Did (lookUp first long t a) amount words) (wrong-words first long t a amount words n) (left 1 (λ e. omega arith)))
 
 -- no booking changes how many words there are
 pub did-long : {r : Answer} {amount : ℕ} {words : List ℕ} {o : Outcome} → Did r amount words o → length (o .words) ≡ length words

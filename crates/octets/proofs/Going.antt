@@ -1,27 +1,27 @@
 -- Bookings one after the other, as a loop that goes up and stores the number of each over what the room held; and that to book by all
 -- answers of look up is to book each flow. Assumes nothing.
 use mathlib.Core.Path.{_≡_, refl, sym, ap, ap₂, subst, _∙_}
-use mathlib.Core.Bool.{Bool, cond, _&&_}
+use mathlib.Core.Bool.{_&&_}
 use mathlib.Core.List.{List, [], _∷_, _++_, map, append-nil}
-use Prim.Native.Nat.{ℕ, zero, suc, _+_, _/_, _%_, _≤_, _<_}
+use Prim.Native.Nat.{ℕ, zero, suc, _+_, _≤_, _<_}
 use native.Mathlib.Nat.{not-suc-le-zero, le-of-suc-le-suc}
 use native.Mathlib.Numerals.{add-one}
 use native.Mathlib.Omega.{arith}
 use lib.Dec.{eqb}
 use lib.ListN.{length, getD, set, take, drop, length-set, drop-of-length-le}
 use lib.Seq.{drop-cons, take-all, take-suc-set, append-snoc, drop-set-lt}
-use Rattle.ground.proofs.Tests.{Decides, holds, fails, eqb?, and?, cond-on, cond-off}
+use Rattle.ground.proofs.Tests.{Decides, eqb?, and?, cond-on, cond-off}
 use Rattle.prefix.specs.declared.Prefix.{Prefix}
-use Rattle.lookup.specs.declared.look.Answer.{Answer}
 use Rattle.cells.specs.Memory.{lentToRead}
-use Rattle.lookup.specs.Lookup.{lookUp, packed}
-use Rattle.cells.proofs.Lending.{LentToRead, lentToRead?}
-use Rattle.lookup.proofs.Answers.{small-look, unpacked}
-use Rattle.bulk.specs.All.{answerOf, allOf, Outcome as All}
+use Rattle.lookup.specs.Lookup.{unpackedOf}
+use Rattle.lookup.proofs.Answers.{Told, told-look, unpacked}
+use Rattle.bulk.proofs.Answering.{Asked, asked?}
+use Rattle.bulk.specs.All.{answerOf}
 use Rattle.octets.specs.Words.{wordCount}
-use Rattle.octets.specs.Booking.{Outcome, enter, book}
-use Rattle.octets.specs.Many.{Booked, each, bookEach, enterNumber, enterEach, bookAll}
-use Rattle.octets.proofs.Entering.{did-enter, did-long}
+use Rattle.octets.specs.Booking.{Outcome}
+use Rattle.octets.specs.Many.{Booked, each, bookEach, bookAll}
+use Rattle.octets.specs.inner.Numbers.{HopsFit, enterNumber, enterEach}
+use Rattle.octets.proofs.Entering.{booked, did-enter, did-long}
 
 -- ---- the loop
 
@@ -84,14 +84,7 @@ module _ {one : ℕ → ℕ → List ℕ → Outcome} {xs ns ws : List ℕ} wher
 -- ---- all answers first
 
 module _ (first long : List ℕ) (t : Prefix) where
-  one-same : (a n : ℕ) (words : List ℕ) → length words ≡ wordCount → enterNumber (answerOf first long t a) n words ≡ book first long t a n words
-  unfolding book
-  one-same a n words l =
-      let r = lookUp first long t a in
-      ap (λ (x : Answer). enter x n words) (unpacked r (packed r) (small-look first long t a) refl)
-      ∙ sym (cond-on _ _ (eqb? (length words) wordCount) l)
-
-  pub by-answers : (xs ns words : List ℕ) → length words ≡ wordCount
+  by-answers : (xs ns words : List ℕ) → length words ≡ wordCount
       → enterEach (map (answerOf first long t) xs) ns words ≡ bookEach first long t xs ns words
   unfolding each
   by-answers [] ns words l = refl
@@ -101,56 +94,27 @@ module _ (first long : List ℕ) (t : Prefix) where
       let more = did-long (did-enter (unpackedOf (answerOf first long t a)) n words) in
       ap (λ (b : Booked). record { codes = o .code ∷ b .codes; words = b .words }) (by-answers xs ns (o .words) (more ∙ l))
       ∙ ap (λ (q : Outcome). let b = bookEach first long t xs ns (q .words) in record { codes = q .code ∷ b .codes; words = b .words })
-      (one-same a n words l)
+      (booked first long t a n words l (unpacked (told-look first long t a) refl) refl)
 
 -- ---- the call, by what was tested
 
 -- the hop in look up's number is small
-pub hops-small : (first long : List ℕ) (t : Prefix) (xs ys : List ℕ) → ys ≡ map (answerOf first long t) xs
-    → (i : ℕ) → i < length ys → unpackedOf (getD ys i 0) .hop ≤ 32767
-hops-small first long t xs ys e i h = subst (λ (l : List ℕ). i < length l → unpackedOf (getD l i 0) .hop ≤ 32767) (sym e) (go xs i) h
+pub hops-small : (first long : List ℕ) (t : Prefix) (xs ys : List ℕ) → ys ≡ map (answerOf first long t) xs → HopsFit ys
+hops-small first long t xs ys e = subst HopsFit (sym e) (go xs)
   where
-    go : (l : List ℕ) (k : ℕ) → k < length (map (answerOf first long t) l) → unpackedOf (getD (map (answerOf first long t) l) k 0) .hop ≤ 32767
+    go : (l : List ℕ) → HopsFit (map (answerOf first long t) l)
     go [] k m = absurd (not-suc-le-zero m)
-    go (x ∷ l) zero m = omega (arith, small-look first long t x .hop)
+    go (x ∷ l) zero m = let T = told-look first long t x in subst Told (sym (unpacked T refl)) T .hop
     go (x ∷ l) (suc k) m = go l k (le-of-suc-le-suc m)
-
-module _ (first long : List ℕ) (t : Prefix) (addresses codes : List ℕ) where
-  -- what look up of all addresses asks
-  abbrev Answers : Type 0
-  Answers = LentToRead (length first) (length long) t × (length addresses ≡ length codes)
-
-  answers? : Decides Answers (lentToRead (length first) (length long) t && eqb (length addresses) (length codes))
-  answers? = and? (lentToRead? (length first) (length long) t) (eqb? (length addresses) (length codes))
-
-  pub answered : {o : All} → o ≡ allOf first long t addresses codes → o .code ≡ 0 → Answers × (o .answers ≡ map (answerOf first long t) addresses)
-  unfolding allOf
-  answered {o} e z = go answers? e
-    where
-      go : {x : Bool} → Decides Answers x
-          → o ≡ cond x (record { code = 0; answers = map (answerOf first long t) addresses }) (record { code = 1; answers = codes })
-          → Answers × (o .answers ≡ map (answerOf first long t) addresses)
-      go (holds p) f = (p, ap (λ (y : All). y .answers) f)
-      go (fails n) f = absurd (omega (arith, ap (λ (y : All). y .code) f))
-
-  pub not-answered : {o : All} → o ≡ allOf first long t addresses codes → (o .code ≡ 0 → ⊥) → (Answers → ⊥) × (o .answers ≡ codes)
-  unfolding allOf
-  not-answered {o} e m = go answers? e
-    where
-      go : {x : Bool} → Decides Answers x
-          → o ≡ cond x (record { code = 0; answers = map (answerOf first long t) addresses }) (record { code = 1; answers = codes })
-          → (Answers → ⊥) × (o .answers ≡ codes)
-      go (holds p) f = absurd (m (ap (λ (y : All). y .code) f))
-      go (fails n) f = (n, ap (λ (y : All). y .answers) f)
 
 module _ (first long : List ℕ) (t : Prefix) (addresses amounts codes words : List ℕ) where
   -- what the call asks
   abbrev Asks : Type 0
-  Asks = ((length words ≡ wordCount) × (length amounts ≡ length addresses)) × Answers first long t addresses codes
+  Asks = ((length words ≡ wordCount) × (length amounts ≡ length addresses)) × Asked first long t addresses codes
 
   asks? : Decides Asks (eqb (length words) wordCount && eqb (length amounts) (length addresses)
       && (lentToRead (length first) (length long) t && eqb (length addresses) (length codes)))
-  asks? = and? (and? (eqb? (length words) wordCount) (eqb? (length amounts) (length addresses))) (answers? first long t addresses codes)
+  asks? = and? (and? (eqb? (length words) wordCount) (eqb? (length amounts) (length addresses))) (asked? first long t addresses codes)
 
   pub refused-whole : (Asks → ⊥) → {cs : List ℕ} → cs ≡ codes
       → record { code = 1; words = words; codes = cs } ≡ bookAll first long t addresses amounts codes words

@@ -1,13 +1,13 @@
 -- Many flows in one call: the same as booking them one after the other, or the call is refused and writes nothing. Assumes nothing.
 use mathlib.Core.Bool.{cond, _&&_}
 use mathlib.Core.List.{List, [], _∷_}
-use Prim.Native.Nat.{ℕ, _/_, _%_}
+use Prim.Native.Nat.{ℕ}
 use lib.Dec.{eqb}
 use lib.ListN.{length}
 use Rattle.prefix.specs.declared.Prefix.{Prefix}
 use Rattle.cells.specs.Memory.{lentToRead}
 use Rattle.octets.specs.Words.{wordCount}
-use Rattle.octets.specs.Booking.{Outcome, enter, book}
+use Rattle.octets.specs.Booking.{Outcome, book}
 
 -- the number of each record, and the words after the last
 pub record Booked : Type 0 where
@@ -26,13 +26,6 @@ each one [] ns words = record { codes = []; words = words }
 -- addresses and amounts
 abbrev pub bookEach : List ℕ → List ℕ → Prefix → List ℕ → List ℕ → List ℕ → Booked
 bookEach first long t addresses amounts words = each (book first long t) addresses amounts words
-
--- answers of look up, as numbers, and amounts
-abbrev pub enterNumber : ℕ → ℕ → List ℕ → Outcome
-enterNumber n amount words = enter (unpackedOf n) amount words
-
-abbrev pub enterEach : List ℕ → List ℕ → List ℕ → Booked
-enterEach numbers amounts words = each enterNumber numbers amounts words
 
 -- what a call answers, the words that it leaves, and what it leaves in the room for the numbers
 pub record Outcomes : Type 0 where

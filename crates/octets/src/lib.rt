@@ -1,15 +1,17 @@
 // The words of octets, one for each hop: cleared, and booked into by the hop that look up names.
 ghost use mathlib.Core.Path.{_≡_};
-ghost use Prim.Native.Nat.{ℕ, _%_, _<_, _≤_};
-ghost use lib.ListN.{length, getD};
+ghost use Prim.Native.Nat.{_≤_};
+ghost use lib.ListN.{length};
 ghost use Rattle.prefix.specs.Routes.{lastHop};
 ghost use Rattle.octets.specs.Words.{wordCount};
 ghost use Rattle.octets.specs.Booking.{refusalOf, enter, clearOctets, book};
-ghost use Rattle.octets.specs.Many.{enterEach, bookAll};
+ghost use Rattle.octets.specs.Many.{bookAll};
+ghost use Rattle.octets.specs.inner.Numbers.{HopsFit, enterEach};
 
 pub mod words;
 
 use bulk::look_up_all;
+use lookup::look::Answer;
 use lookup::look::look_up;
 use prefix::Prefix;
 use words::Words;
@@ -38,15 +40,16 @@ fn refusal(code: u32) -> u32
 }
 
 // Books an amount by an answer of look up. The hop of "no route" is 0, and so is its word.
-fn enter(octets: &mut [u64], code: u32, hop: u32, amount: u64) -> u32
-    requires { ⌜ (length (now octets) ≡ wordCount) × (hop ≤ lastHop) ⌝ }
-    ensures { λ r. ⌜ record { code = r; words = now (octets .exit) } ≡ enter (record { code = code; hop = hop }) amount (now (octets .entry)) ⌝ }
+fn enter(octets: &mut [u64], answer: Answer, amount: u64) -> u32
+    requires { ⌜ (length (now octets) ≡ wordCount) × (answer .hop ≤ lastHop) ⌝ }
+    ensures { λ r. ⌜ record { code = r; words = now (octets .exit) } ≡ enter answer amount (now (octets .entry)) ⌝ }
 {
-    let refused = refusal(code);
+    let refused = refusal(answer.code);
     if refused != 0 {
         return refused;
     }
-    let word = octets[hop as usize];
+    let hop = answer.hop as usize;
+    let word = octets[hop];
     if Words::MOST < word {
         return 30;
     }
@@ -54,11 +57,12 @@ fn enter(octets: &mut [u64], code: u32, hop: u32, amount: u64) -> u32
     if Words::MOST - word < amount {
         return 30;
     }
-    octets[hop as usize] = word + amount;
+    octets[hop] = word + amount;
     0
 }
 
-// Books a flow: its octets are added to the word of the hop that look up names, or to word 0 where there is no route. Refusals 1, 3, 4 and 30.
+// Books a flow: its octets are added to the word of the hop that look up names, or to word 0 where there is no route. Refusals 1, 3, 4
+// and 30.
 pub fn book(
     first: &[u32],
     long: &[u32],
@@ -67,26 +71,26 @@ pub fn book(
     address: u32,
     amount: u64,
 ) -> u32
-    ensures { λ r. ⌜ record { code = r; words = now (octets .exit) } ≡ book (now (first .entry)) (now (long .entry)) territory address amount (now (octets .entry)) ⌝ }
+    ensures { λ r. ⌜ record { code = r; words = now (octets .exit) }
+        ≡ book (now (first .entry)) (now (long .entry)) territory address amount (now (octets .entry)) ⌝ }
 {
     if octets.len() != Words::COUNT {
         return 1;
     }
-    let answer = look_up(first, long, territory, address);
-    enter(octets, answer.code, answer.hop, amount)
+    enter(octets, look_up(first, long, territory, address), amount)
 }
 
 // Books by look up's answers, which the room holds as numbers, and leaves there the number of each record.
 fn enter_all(octets: &mut [u64], amounts: &[u64], codes: &mut [u32])
     requires { ⌜ (length (now octets) ≡ wordCount) × (length (now amounts) ≡ length (now codes)) ⌝ }
-    requires { ⌜ ((i : ℕ) → i < length (now codes) → unpackedOf (getD (now codes) i 0) .hop ≤ lastHop) ⌝ }
-    ensures { λ _. ⌜ record { codes = now (codes .exit); words = now (octets .exit) } ≡ enterEach (now (codes .entry)) (now (amounts .entry)) (now (octets .entry)) ⌝ }
+    requires { ⌜ HopsFit (now codes) ⌝ }
+    ensures { λ _. ⌜ record { codes = now (codes .exit); words = now (octets .exit) }
+        ≡ enterEach (now (codes .entry)) (now (amounts .entry)) (now (octets .entry)) ⌝ }
 {
     let count = codes.len();
     let mut i = 0;
     while i < count {
-        let answer = Answer::unpack(codes[i]);
-        codes[i] = enter(octets, answer.code, answer.hop, amounts[i]);
+        codes[i] = enter(octets, Answer::unpack(codes[i]), amounts[i]);
         i += 1;
     }
 }
@@ -102,7 +106,9 @@ pub fn book_all(
     amounts: &[u64],
     codes: &mut [u32],
 ) -> u32
-    ensures { λ r. ⌜ record { code = r; words = now (octets .exit); codes = now (codes .exit) } ≡ bookAll (now (first .entry)) (now (long .entry)) territory (now (addresses .entry)) (now (amounts .entry)) (now (codes .entry)) (now (octets .entry)) ⌝ }
+    ensures { λ r. ⌜ record { code = r; words = now (octets .exit); codes = now (codes .exit) }
+        ≡ bookAll (now (first .entry)) (now (long .entry)) territory (now (addresses .entry)) (now (amounts .entry))
+        (now (codes .entry)) (now (octets .entry)) ⌝ }
 {
     if octets.len() != Words::COUNT {
         return 1;

@@ -2,7 +2,7 @@
 use mathlib.Core.Path.{sym, _∙_}
 use native.Mathlib.Omega.{arith}
 use Rattle.ground.proofs.Tests.{ltb?, cond-on, cond-off}
-use Rattle.bulk.specs.Passes.{blockFrom, judged}
+use Rattle.bulk.specs.inner.Passes.{blockFrom, judged}
 use borrow.Author.Needs.{needs}
 use Rattle.bulk.proofs.judge.Statement.{statement}
 use Rattle.bulk.proofs.judge.Tie as tie
@@ -12,9 +12,6 @@ said-or-pointer-requires c κs = search needs
 
 block-requires : tie.Need-block-requires
 block-requires c κs = search needs
-
-mul-result : tie.Need-mul-result
-mul-result c = search needs
 
 returns : tie.Need-returns
 unfolding judged
@@ -31,4 +28,4 @@ returns-2 c =
 
 pub judge-spec : {M : Type 1} → statement M
 judge-spec =
-    tie.close (tie.spec said-or-pointer-requires block-requires mul-result returns returns-2)
+    tie.close (tie.spec said-or-pointer-requires block-requires returns returns-2)

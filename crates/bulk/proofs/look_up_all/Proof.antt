@@ -1,12 +1,12 @@
 -- `bulk::look_up_all` meets its contract: where both tests pass, the four passes answer each address. Assumes nothing.
 use mathlib.Core.Path.{_≡_}
-use Prim.Native.Nat.{_-_}
 use native.Mathlib.Omega.{arith}
 use lib.ListN.{length}
-use lib.Pow.{pow-mono}
 use denote.Ref.{now}
+use Rattle.prefix.proofs.Spans.{few-blocks}
 use Rattle.cells.proofs.Lending.{LentToRead}
-use Rattle.bulk.proofs.Answering.{lent, not-lent, refuses, answered, places-lent, passes-all}
+use Rattle.lookup.proofs.Reading.{stands}
+use Rattle.bulk.proofs.Answering.{not-lent, refuses, answered, places-lent, passes-all}
 use borrow.Author.Needs.{needs}
 use Rattle.bulk.proofs.look_up_all.Statement.{statement}
 use Rattle.bulk.proofs.look_up_all.Tie as tie
@@ -29,8 +29,7 @@ returns-2 c =
 may-read : (c : tie.Else1) → let s = c .before .before .before .before .before .before .args in
     LentToRead (length (now (s .first))) (length (now (s .long))) (s .territory)
 may-read c =
-    let s = c .before .before .before .before .before .before .args in
-    lent (length (now (s .first))) (length (now (s .long))) (s .territory) (omega arith)
+    let zero : c .before .standing .result ≡ 0 = omega (arith, c .if1 .left) in stands (c .before .standing .ensures) zero .lent
 
 -- past the second test, there is room for an answer to each address
 room-each : (c : tie.Else2) → let s = c .before .before .before .before .before .before .before .args in length (now (s .addresses)) ≡ length (now (s .answers))
@@ -39,7 +38,7 @@ room-each c = omega (arith, c .if2 .left)
 cast-blocks : tie.Need-cast-blocks
 cast-blocks c =
     let s = c .before .before .before .before .before .before .before .args in
-    omega (arith, may-read (c .before) .a-cell-a-block, pow-mono {i = 24 - s .territory .length} {j = 24} (omega arith))
+    omega (arith, may-read (c .before) .a-cell-a-block, few-blocks (s .territory))
 
 places-requires : tie.Need-places-requires
 places-requires c κs = search needs
@@ -71,7 +70,7 @@ returns-3 c =
     let s = start .args in
     let l = may-read (passed .before) in
     let e = room-each passed in
-    answered (now (s .first)) (now (s .long)) (s .territory) (now (s .addresses)) (now (s .answers)) l e
+    answered (now (s .first)) (now (s .long)) (s .territory) (now (s .addresses)) (now (s .answers)) (l, e)
     (passes-all (now (s .first)) (now (s .long)) (s .territory) (now (s .addresses)) (now (s .answers)) l
     (omega (arith, start .good)) (λ i h. omega (arith, known .shared-slice-known3 .given i)) e
     (placing .places .ensures) (fetching .fetch .ensures) (judging .judge-all .ensures) (settling .settle-all .ensures))

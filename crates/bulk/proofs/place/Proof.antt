@@ -2,7 +2,7 @@
 use mathlib.Core.Path.{sym, _∙_}
 use native.Mathlib.Omega.{arith}
 use Rattle.ground.proofs.Tests.{ltb?, cond-on, cond-off}
-use Rattle.bulk.specs.Passes.{blockFrom, placeOf}
+use Rattle.bulk.specs.inner.Passes.{blockFrom, placeOf}
 use borrow.Author.Needs.{needs}
 use Rattle.bulk.proofs.place.Statement.{statement}
 use Rattle.bulk.proofs.place.Tie as tie

@@ -3,7 +3,7 @@ use Prim.Native.Nat.{_-_}
 use native.Mathlib.Omega.{arith}
 use lib.ListN.{getD}
 use borrow.Author.Needs.{needs}
-use Rattle.bulk.specs.Passes.{placeOf}
+use Rattle.bulk.specs.inner.Passes.{placeOf}
 use Rattle.ground.proofs.Lists.{Passed, pass-none, pass-more, pass-all}
 use Rattle.bulk.proofs.places.Statement.{statement}
 use Rattle.bulk.proofs.places.Tie as tie

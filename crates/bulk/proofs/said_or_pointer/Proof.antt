@@ -1,9 +1,8 @@
--- `bulk::said_or_pointer` meets its contract: the test picks the cell's verdict, or the cell. Assumes nothing.
+-- `bulk::said_or_pointer` meets its contract: the test picks the cell, or its verdict. Assumes nothing.
 use mathlib.Core.Path.{sym, _∙_}
-use native.Mathlib.Omega.{arith}
-use Rattle.ground.proofs.Tests.{leb?, cond-on, cond-off}
+use Rattle.ground.proofs.Tests.{leb?, says, denies, cond-on, cond-off}
 use Rattle.cells.specs.Cells.{pointerBit}
-use Rattle.bulk.specs.Passes.{saidOrPointer}
+use Rattle.bulk.specs.inner.Passes.{saidOrPointer}
 use borrow.Author.Needs.{needs}
 use Rattle.bulk.proofs.said_or_pointer.Statement.{statement}
 use Rattle.bulk.proofs.said_or_pointer.Tie as tie
@@ -11,15 +10,20 @@ use Rattle.bulk.proofs.said_or_pointer.Tie as tie
 verdict-requires : tie.Need-verdict-requires
 verdict-requires c κs = search needs
 
+is-pointer-requires : tie.Need-is-pointer-requires
+is-pointer-requires c κs = search needs
+
 returns : tie.Need-returns
 unfolding saidOrPointer
 returns c =
-    let cell = c .before .before .args .cell in
-    c .before .verdict .ensures ∙ sym (cond-off _ _ (leb? pointerBit cell) (λ p. omega arith))
+    let pointer = leb? pointerBit (c .before .before .before .args .cell) in
+    sym (cond-on _ _ pointer (says pointer (sym (c .before .is-pointer .ensures) ∙ c .if1 .taken)))
 
 returns-2 : tie.Need-returns-2
 unfolding saidOrPointer
-returns-2 c = sym (cond-on _ _ (leb? pointerBit (c .before .before .args .cell)) (omega arith))
+returns-2 c =
+    let pointer = leb? pointerBit (c .before .before .before .args .cell) in
+    c .before .before .verdict .ensures ∙ sym (cond-off _ _ pointer (denies pointer (sym (c .before .is-pointer .ensures) ∙ c .if1 .left)))
 
 pub said-or-pointer-spec : {M : Type 1} → statement M
-said-or-pointer-spec = tie.close (tie.spec verdict-requires returns returns-2)
+said-or-pointer-spec = tie.close (tie.spec verdict-requires is-pointer-requires returns returns-2)

@@ -3,17 +3,23 @@ use mathlib.Core.Path.{sym, _∙_}
 use Prim.Native.Nat.{_%_}
 use native.Mathlib.Omega.{arith}
 use denote.Ref.{now}
-use Rattle.ground.proofs.Tests.{leb?, cond-on, cond-off}
+use Rattle.ground.proofs.Tests.{leb?, if-so, if-not, cond-on, cond-off}
+use Rattle.prefix.specs.Geometry.{blockSize}
 use Rattle.cells.specs.Cells.{pointerBit}
 use Rattle.lookup.proofs.Answers.{by-low}
-use Rattle.bulk.specs.Passes.{settled}
+use Rattle.bulk.specs.inner.Passes.{settled}
 use borrow.Author.Needs.{needs}
 use Rattle.bulk.proofs.settle.Statement.{statement}
 use Rattle.bulk.proofs.settle.Tie as tie
 
+is-pointer-requires : tie.Need-is-pointer-requires
+is-pointer-requires c κs = search needs
+
 returns : tie.Need-returns
 unfolding settled
-returns c = sym (cond-off _ _ (leb? pointerBit (c .before .before .args .word)) (λ p. omega arith))
+returns c =
+    let pointer = leb? pointerBit (c .before .before .before .args .word) in
+    sym (cond-off _ _ pointer (if-not pointer (c .before .is-pointer .ensures) (c .if1 .taken)))
 
 cast-says : tie.Need-cast-says
 cast-says c = search needs
@@ -24,9 +30,10 @@ says-requires c κs = search needs
 returns-2 : tie.Need-returns-2
 unfolding settled
 returns-2 c =
-    let s = c .before .before .before .args in
-    let told = by-low (now (s .long)) _ (s .address % 256) (s .word) (c .says .result) (c .says .ensures) (omega arith) in
-    told ∙ sym (cond-on _ _ (leb? pointerBit (s .word)) (omega arith))
+    let s = c .before .before .before .before .args in
+    let pointer = leb? pointerBit (s .word) in
+    by-low (now (s .long)) _ (s .address % blockSize) (s .word) (c .says .result) (c .says .ensures) (omega arith)
+    ∙ sym (cond-on _ _ pointer (if-so pointer (c .before .before .is-pointer .ensures) (c .before .if1 .left)))
 
 pub settle-spec : {M : Type 1} → statement M
-settle-spec = tie.close (tie.spec returns cast-says says-requires returns-2)
+settle-spec = tie.close (tie.spec is-pointer-requires returns cast-says says-requires returns-2)

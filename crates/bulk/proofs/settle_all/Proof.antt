@@ -5,7 +5,7 @@ use Prim.Native.Nat.{ℕ, _-_}
 use native.Mathlib.Omega.{arith}
 use lib.ListN.{getD}
 use borrow.Author.Needs.{needs}
-use Rattle.bulk.specs.Passes.{settled}
+use Rattle.bulk.specs.inner.Passes.{settled}
 use Rattle.ground.proofs.Lists.{Passed, pass-none, pass-more, pass-all}
 use Rattle.bulk.proofs.settle_all.Statement.{statement}
 use Rattle.bulk.proofs.settle_all.Tie as tie

@@ -1,10 +1,9 @@
 -- `book` meets its contract: look up answers, and its answer is entered. Assumes nothing.
-use mathlib.Core.Path.{ap}
+use mathlib.Core.Path.{sym, subst}
 use native.Mathlib.Omega.{arith}
 use borrow.Author.Needs.{needs}
 use denote.Ref.{now}
-use Rattle.lookup.specs.declared.look.Answer.{Answer}
-use Rattle.lookup.proofs.Answers.{small-look}
+use Rattle.lookup.proofs.Answers.{Told, told-look}
 use Rattle.octets.proofs.Entering.{wrong-words, booked}
 use Rattle.octets.proofs.book.Statement.{statement}
 use Rattle.octets.proofs.book.Tie as tie
@@ -19,11 +18,7 @@ look-up-requires c κs = search needs
 
 enter-requires : tie.Need-enter-requires
 enter-requires c κs =
-    let s = c .before .before .before .before .before .before .args in
-    let said = c .before .look-up .ensures in (
-      omega (arith, c .before .before .if1 .left),
-      omega (arith, ap (λ (r : Answer). r .hop) said, small-look (now (s .first)) (now (s .long)) (s .territory) (s .address) .hop),
-    )
+    (omega (arith, c .before .before .if1 .left), omega (arith, subst Told (sym (c .look-up .ensures)) (told-look _ _ _ _) .hop))
 
 same-length : tie.Need-same-length
 same-length c = search needs
@@ -33,7 +28,7 @@ returns-2 c =
     let s = c .before .before .before .before .before .before .before .before .before .args in
     booked (now (s .first)) (now (s .long)) (s .territory) (s .address) (s .amount) (now (s .octets))
     (omega (arith, c .before .before .before .before .before .if1 .left))
-    (c .before .before .before .before .look-up .ensures) (c .before .before .enter .ensures)
+    (c .before .before .before .look-up .ensures) (c .before .before .enter .ensures)
 
 pub book-spec : {M : Type 1} → statement M
 book-spec = tie.close (tie.spec returns look-up-requires enter-requires same-length returns-2)

@@ -4,8 +4,9 @@ use mathlib.Core.List.{List}
 use Prim.Native.Nat.{ℕ}
 use native.Mathlib.Omega.{arith}
 use denote.Ref.{now}
-use Rattle.octets.specs.Many.{enterEach}
-use Rattle.octets.proofs.Going.{hops-small, answered, not-answered, refused-whole, booked-each}
+use Rattle.octets.specs.inner.Numbers.{enterEach}
+use Rattle.bulk.proofs.Answering.{has-answered, has-refused}
+use Rattle.octets.proofs.Going.{hops-small, refused-whole, booked-each}
 use borrow.Author.Needs.{needs}
 use Rattle.octets.proofs.book_all.Statement.{statement}
 use Rattle.octets.proofs.book_all.Tie as tie
@@ -32,7 +33,7 @@ returns-3 : tie.Need-returns-3
 returns-3 c =
     let s = c .before .before .before .before .before .before .before .before .before .before .before .before .before .args in
     let said = c .before .before .before .look-up-all .ensures in
-    let no = not-answered (now (s .first)) (now (s .long)) (s .territory) (now (s .addresses)) (now (s .codes)) said (λ z. omega (arith, c .if3 .taken)) in
+    let no = has-refused (now (s .first)) (now (s .long)) (s .territory) (now (s .addresses)) (now (s .codes)) said (λ z. omega (arith, c .if3 .taken)) in
     refused-whole (now (s .first)) (now (s .long)) (s .territory) (now (s .addresses)) (now (s .amounts)) (now (s .codes)) (now (s .octets))
     (λ a. no .0 (a .1)) (no .1)
 
@@ -40,7 +41,7 @@ enter-all-requires : tie.Need-enter-all-requires
 enter-all-requires c κs =
     let s = c .before .before .before .before .before .before .before .before .before .before .before .before .before .before .before .args in
     let said = c .before .before .before .before .before .look-up-all .ensures in
-    let yes = answered (now (s .first)) (now (s .long)) (s .territory) (now (s .addresses)) (now (s .codes)) said (omega arith) in
+    let yes = has-answered (now (s .first)) (now (s .long)) (s .territory) (now (s .addresses)) (now (s .codes)) said (omega arith) in
     ((omega arith, omega (arith, yes .0 .1)), hops-small (now (s .first)) (now (s .long)) (s .territory) (now (s .addresses)) _ (yes .1))
 
 same-length-2 : tie.Need-same-length-2
@@ -54,7 +55,7 @@ returns-4 c =
     let done = c .before .before .before .before in
     let asked = done .before .before .before .before .before .before in
     let s = asked .before .before .before .before .before .before .before .before .before .before .args in
-    let yes = answered (now (s .first)) (now (s .long)) (s .territory) (now (s .addresses)) (now (s .codes)) (asked .look-up-all .ensures) (omega arith) in
+    let yes = has-answered (now (s .first)) (now (s .long)) (s .territory) (now (s .addresses)) (now (s .codes)) (asked .look-up-all .ensures) (omega arith) in
     booked-each (now (s .first)) (now (s .long)) (s .territory) (now (s .addresses)) (now (s .amounts)) (now (s .codes)) (now (s .octets))
     ((omega arith, omega arith), yes .0)
     (done .enter-all .ensures ∙ ap (λ (l : List ℕ). enterEach l (now (s .amounts)) (now (s .octets))) (yes .1))

@@ -14,7 +14,10 @@ refusal-requires c κs = search needs
 returns : tie.Need-returns
 returns c =
     let s = c .before .before .before .args in
-    turned-away (record { code = s .code; hop = s .hop }) (s .amount) (now (s .octets)) (c .before .refusal .ensures) (λ z. omega (arith, c .if1 .taken))
+    turned-away (s .answer) (s .amount) (now (s .octets)) (c .before .refusal .ensures) (λ z. omega (arith, c .if1 .taken))
+
+cast-hop : tie.Need-cast-hop
+cast-hop c = search needs
 
 mul-word : tie.Need-mul-word
 mul-word c = search needs
@@ -24,20 +27,20 @@ slice-read-word c = search needs
 
 returns-2 : tie.Need-returns-2
 returns-2 c =
-    let k = c .before .before .before in
+    let k = c .before .before .before .before in
     let s = k .before .before .args in
-    let passed : refusalOf (s .code) ≡ 0 = omega (arith, k .refusal .ensures, c .before .before .if1 .left) in
-    too-much (record { code = s .code; hop = s .hop }) (s .amount) (now (s .octets)) passed (omega (arith, c .if2 .taken))
+    let passed : refusalOf (s .answer .code) ≡ 0 = omega (arith, k .refusal .ensures, c .before .before .before .if1 .left) in
+    too-much (s .answer) (s .amount) (now (s .octets)) passed (omega (arith, c .if2 .taken))
 
 returns-3 : tie.Need-returns-3
 returns-3 c =
-    let k = c .before .before .before .before in
+    let k = c .before .before .before .before .before in
     let s = k .before .before .args in
-    let passed : refusalOf (s .code) ≡ 0 = omega (arith, k .refusal .ensures, c .before .before .before .if1 .left) in
-    too-much (record { code = s .code; hop = s .hop }) (s .amount) (now (s .octets)) passed (omega (arith, c .if3 .taken))
+    let passed : refusalOf (s .answer .code) ≡ 0 = omega (arith, k .refusal .ensures, c .before .before .before .before .if1 .left) in
+    too-much (s .answer) (s .amount) (now (s .octets)) passed (omega (arith, c .if3 .taken))
 
 add-octets : tie.Need-add-octets
-add-octets c = search needs
+add-octets c = omega arith
 
 mul-octets : tie.Need-mul-octets
 mul-octets c = search needs
@@ -50,10 +53,10 @@ same-length c = search needs
 
 returns-4 : tie.Need-returns-4
 returns-4 c =
-    let k = c .before .before .before .before in
+    let k = c .before .before .before .before .before in
     let s = k .before .before .args in
-    let passed : refusalOf (s .code) ≡ 0 = omega (arith, k .refusal .ensures, c .before .before .before .if1 .left) in
-    entered (record { code = s .code; hop = s .hop }) (s .amount) (now (s .octets)) passed (omega (arith, c .before .if2 .left, c .if3 .left))
+    let passed : refusalOf (s .answer .code) ≡ 0 = omega (arith, k .refusal .ensures, c .before .before .before .before .if1 .left) in
+    entered (s .answer) (s .amount) (now (s .octets)) passed _ (omega arith) (omega (arith, c .before .if2 .left, c .if3 .left))
 
 pub enter-spec : {M : Type 1} → statement M
 enter-spec =
@@ -61,6 +64,7 @@ enter-spec =
     (tie.spec
     refusal-requires
     returns
+    cast-hop
     mul-word
     slice-read-word
     returns-2

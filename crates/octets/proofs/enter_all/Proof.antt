@@ -1,11 +1,13 @@
 -- `enter_all` meets its contract: the invariant is `Going`, and the words stay as many. Assumes nothing.
-use mathlib.Core.Path.{_≡_, _∙_}
+use mathlib.Core.Path.{_≡_, ap, _∙_}
 use Prim.Native.Nat.{_-_, _<_}
 use native.Mathlib.Omega.{arith}
-use lib.ListN.{length}
+use lib.ListN.{length, getD}
 use borrow.Author.Needs.{needs}
+use Rattle.lookup.specs.declared.look.Answer.{Answer}
 use Rattle.octets.specs.Words.{wordCount}
-use Rattle.octets.specs.Many.{enterNumber}
+use Rattle.octets.specs.Booking.{enter}
+use Rattle.octets.specs.inner.Numbers.{enterNumber}
 use Rattle.octets.proofs.Entering.{enter-long}
 use Rattle.octets.proofs.Going.{Going, going-none, going-at, going-more, going-all}
 use Rattle.octets.proofs.enter_all.Statement.{statement}
@@ -20,11 +22,14 @@ abbrev μ-loop : tie.MeasureT-loop
 loop-holds : tie.Need-loop-holds Inv-loop μ-loop
 loop-holds c = (omega arith, going-none)
 
-mul-number : tie.Need-mul-number Inv-loop μ-loop
-mul-number c = search needs
+mul-unpack : tie.Need-mul-unpack Inv-loop μ-loop
+mul-unpack c = search needs
 
-slice-read-number : tie.Need-slice-read-number Inv-loop μ-loop
-slice-read-number c = search needs
+slice-read-unpack : tie.Need-slice-read-unpack Inv-loop μ-loop
+slice-read-unpack c = search needs
+
+unpack-requires : tie.Need-unpack-requires Inv-loop μ-loop
+unpack-requires c κs = search needs
 
 mul-enter : tie.Need-mul-enter Inv-loop μ-loop
 mul-enter c = search needs
@@ -34,10 +39,11 @@ shared-slice-read-enter c = search needs
 
 enter-requires : tie.Need-enter-requires Inv-loop μ-loop
 enter-requires c κs =
-    let turn = c .before .before .before .before in
+    let turn = c .before .before .before .before .before in
     let pre = turn .before .before .before .before .pre in
+    let hop = ap (λ (r : Answer). r .hop) (c .before .unpack .ensures) in
     let here : turn .loop .i < length (turn .before .before .before .before .args .codes .now) = omega (arith, turn .loop .inv .1 .long) in
-    (turn .loop .inv .0, omega (arith, going-at (turn .loop .inv .1) here, pre .1 (turn .loop .i) here))
+    (turn .loop .inv .0, omega (arith, hop, going-at (turn .loop .inv .1) here, pre .1 (turn .loop .i) here))
 
 mul-codes : tie.Need-mul-codes Inv-loop μ-loop
 mul-codes c = search needs
@@ -53,8 +59,13 @@ loop-less c = search needs
 
 loop-again : tie.Need-loop-again Inv-loop μ-loop
 loop-again c =
-    let said = c .before .before .enter .ensures in
-    let turn = c .before .before .before .before .before .before .before in (
+    let entering = c .before .before in
+    let unpacking = entering .before .before in
+    let turn = unpacking .before .before .before .before in
+    let said =
+    entering .enter .ensures
+    ∙ ap (λ (r : Answer). enter r (getD (turn .before .before .before .before .args .amounts .now) (turn .loop .i) 0) (turn .loop .octets))
+    (unpacking .unpack .ensures) in (
       enter-long _ _ _ said ∙ turn .loop .inv .0,
       going-more (turn .loop .inv .1) _ said (omega (arith, turn .loop .inv .1 .long)) (omega (arith, turn .loop .inv .1 .long)),
     )
@@ -75,8 +86,9 @@ enter-all-spec =
     Inv-loop
     μ-loop
     loop-holds
-    mul-number
-    slice-read-number
+    mul-unpack
+    slice-read-unpack
+    unpack-requires
     mul-enter
     shared-slice-read-enter
     enter-requires

@@ -1,10 +1,10 @@
 -- `bytes::look_up_bytes` meets its contract: as `look::look_up`, on the words that the bytes spell. Assumes nothing.
-use mathlib.Core.Path.{sym, ap, _∙_}
-use Prim.Native.Nat.{_*_, _/_, _%_}
-use native.Mathlib.Nat.{add-zero}
+use mathlib.Core.Path.{ap, _∙_}
+use Prim.Native.Nat.{_/_, _%_}
 use native.Mathlib.Omega.{arith}
-use lib.ListN.{length}
+use lib.ListN.{length, getD}
 use denote.Ref.{now}
+use Rattle.prefix.specs.Geometry.{blockSize}
 use Rattle.lookup.specs.Lookup.{refused, saysOf, lookUp, packed}
 use Rattle.lookup.specs.Bytes.{words}
 use Rattle.lookup.proofs.Reading.{Stands, stands, small-standing, past-base, block-lent, goes-on, stops-at}
@@ -24,19 +24,18 @@ returns-2 c =
 standing-requires : tie.Need-standing-requires
 standing-requires c κs = search needs
 
-mul-result : tie.Need-mul-result
-mul-result c =
+refusal-requires : tie.Need-refusal-requires
+refusal-requires c κs =
     let s = c .before .before .before .before .before .before .args in
     omega (arith, c .before .standing .ensures, small-standing (length (now (s .first)) / 4) (length (now (s .long)) / 4) (s .territory) (s .address))
 
 returns-3 : tie.Need-returns-3
 unfolding lookUp
 returns-3 c =
-    let s = c .before .before .before .before .before .before .args in
-    let code = c .before .standing .result in
-    sym (add-zero (code * 65536))
-    ∙ ap packed (stops-at refused (length (words (now (s .first)))) (length (words (now (s .long)))) (s .territory) (s .address) _ code
-    (c .before .standing .ensures ∙ standing-words (now (s .first)) (now (s .long)) (s .territory) (s .address)) (c .if3 .taken))
+    let s = c .before .before .before .before .before .before .before .args in
+    c .refusal .ensures
+    ∙ ap packed (stops-at refused _ _ _ _ _ _
+    (c .before .before .standing .ensures ∙ standing-words (now (s .first)) (now (s .long)) (s .territory) (s .address)) (c .before .if3 .taken))
     ∙ whole (now (s .first)) (now (s .long)) (s .territory) (s .address) (omega arith) (omega arith)
 
 -- past the third test, the call may read the words
@@ -44,21 +43,18 @@ may-read : (c : tie.Else3) → let s = c .before .before .before .before .before
     Stands (length (words (now (s .first)))) (length (words (now (s .long)))) (s .territory) (s .address)
 may-read c =
     let s = c .before .before .before .before .before .before .args in
-    stands (length (words (now (s .first)))) (length (words (now (s .long)))) (s .territory) (s .address)
-    (sym (standing-words (now (s .first)) (now (s .long)) (s .territory) (s .address)) ∙ sym (c .before .standing .ensures) ∙ c .if3 .left)
+    stands (c .before .standing .ensures ∙ standing-words (now (s .first)) (now (s .long)) (s .territory) (s .address)) (c .if3 .left)
 
-sub-block : tie.Need-sub-block
-sub-block c = past-base (may-read (c .before))
-
-cast-block : tie.Need-cast-block
-cast-block c = search needs
+block-of-requires : tie.Need-block-of-requires
+block-of-requires c κs = past-base (may-read c)
 
 cast-says-bytes : tie.Need-cast-says-bytes
 cast-says-bytes c = search needs
 
 word-requires : tie.Need-word-requires
 word-requires c κs =
-    let s = c .before .before .before .before .before .before .before .args in omega (arith, block-lent (may-read (c .before)), length-words (now (s .first)))
+    let s = c .before .before .before .before .before .before .before .args in
+    omega (arith, block-lent (may-read (c .before)), length-words (now (s .first)))
 
 says-bytes-requires : tie.Need-says-bytes-requires
 says-bytes-requires c κs = search needs
@@ -67,11 +63,11 @@ returns-4 : tie.Need-returns-4
 unfolding lookUp
 returns-4 c =
     let s = c .before .before .before .before .before .before .before .before .before .args in
-    let first = words (now (s .first)) in
-    let long = words (now (s .long)) in
+    let said = saysOf (words (now (s .long))) (s .address % blockSize) in
     c .says-bytes .ensures
-    ∙ ap (λ cell. packed (saysOf long (s .address % 256) cell)) (c .before .word .ensures)
-    ∙ ap packed (goes-on refused (length first) (length long) (s .territory) (s .address) _ (may-read (c .before .before .before)))
+    ∙ ap (λ cell. packed (said cell)) (c .before .word .ensures)
+    ∙ ap (λ k. packed (said (getD (words (now (s .first))) k 0))) (c .before .before .block-of .ensures)
+    ∙ ap packed (goes-on refused _ _ _ _ _ (may-read (c .before .before .before)))
     ∙ whole (now (s .first)) (now (s .long)) (s .territory) (s .address) (omega arith) (omega arith)
 
 pub look-up-bytes-spec : {M : Type 1} → statement M
@@ -81,10 +77,9 @@ look-up-bytes-spec =
     returns
     returns-2
     standing-requires
-    mul-result
+    refusal-requires
     returns-3
-    sub-block
-    cast-block
+    block-of-requires
     cast-says-bytes
     word-requires
     says-bytes-requires

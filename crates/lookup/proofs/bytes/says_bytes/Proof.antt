@@ -1,7 +1,12 @@
 -- `bytes::says_bytes` meets its contract: as `look::says`, on the words that the bytes spell. Assumes nothing.
 use mathlib.Core.Path.{sym, ap, _∙_}
+use Prim.Native.Nat.{_+_, _*_, _/_, _≤_, _<_}
 use native.Mathlib.Omega.{arith}
+use lib.ListN.{length, getD}
 use denote.Ref.{now}
+use Rattle.ground.proofs.Tests.{leb?, if-so, if-not}
+use Rattle.prefix.specs.Geometry.{blockSize}
+use Rattle.cells.specs.Cells.{pointerBit, segmentOf}
 use Rattle.lookup.specs.Lookup.{packed, verdictOf}
 use Rattle.lookup.specs.Bytes.{words}
 use Rattle.lookup.proofs.Answers.{decides, hands-on, not-lent}
@@ -10,23 +15,28 @@ use borrow.Author.Needs.{needs}
 use Rattle.lookup.proofs.bytes.says_bytes.Statement.{statement}
 use Rattle.lookup.proofs.bytes.says_bytes.Tie as tie
 
+is-pointer-requires : tie.Need-is-pointer-requires
+is-pointer-requires c κs = search needs
+
 verdict-requires : tie.Need-verdict-requires
 verdict-requires c κs = search needs
 
 returns : tie.Need-returns
 returns c =
-    let s = c .before .before .before .args in c .verdict .ensures ∙ sym (ap packed (decides (words (now (s .long))) (s .low) (s .cell) (omega arith)))
+    let s = c .before .before .before .before .args in
+    let direct = if-not (leb? pointerBit (s .cell)) (c .before .before .is-pointer .ensures) (c .before .if1 .taken) in
+    c .verdict .ensures ∙ sym (ap packed (decides (words (now (s .long))) (s .low) (s .cell) direct))
 
-cast-segment : tie.Need-cast-segment
-cast-segment c = search needs
-
-mul-result : tie.Need-mul-result
-mul-result c = search needs
+-- past the first test, the cell is a pointer
+segment-requires : tie.Need-segment-requires
+segment-requires c κs = if-so (leb? pointerBit (c .before .before .before .args .cell)) (c .before .is-pointer .ensures) (c .if1 .left)
 
 returns-2 : tie.Need-returns-2
 returns-2 c =
-    let s = c .before .before .before .args in
-    sym (ap packed (not-lent (words (now (s .long))) (s .low) (s .cell) (omega arith) (omega (arith, length-words (now (s .long))))))
+    let s = c .before .before .before .before .before .args in
+    let long = words (now (s .long)) in
+    let astray : length long / blockSize ≤ segmentOf (s .cell) = omega (arith, c .if2 .taken, length-words (now (s .long))) in
+    sym (ap packed (not-lent long (s .low) (s .cell) (segment-requires (c .before .before) tt) astray))
 
 mul-word : tie.Need-mul-word
 mul-word c = search needs
@@ -35,26 +45,29 @@ add-word : tie.Need-add-word
 add-word c = search needs
 
 word-requires : tie.Need-word-requires
-word-requires c κs = search needs
+word-requires c κs = omega arith
 
 verdict-requires-2 : tie.Need-verdict-requires-2
 verdict-requires-2 c κs = search needs
 
 returns-3 : tie.Need-returns-3
 returns-3 c =
-    let s = c .before .before .before .before .before .args in
+    let s = c .before .before .before .before .before .before .before .args in
+    let long = words (now (s .long)) in
+    let lent : segmentOf (s .cell) < length long / blockSize = omega (arith, c .before .before .if2 .left, length-words (now (s .long))) in
     c .verdict2 .ensures
     ∙ ap (λ cell. packed (verdictOf 32 cell)) (c .before .word .ensures)
-    ∙ sym (ap packed (hands-on (words (now (s .long))) (s .low) (s .cell) (omega arith) (omega (arith, length-words (now (s .long))))))
+    ∙ ap (λ k. packed (verdictOf 32 (getD long (k * blockSize + s .low) 0))) (c .before .before .before .segment .ensures)
+    ∙ sym (ap packed (hands-on long (s .low) (s .cell) (segment-requires (c .before .before .before .before) tt) lent))
 
 pub says-bytes-spec : {M : Type 1} → statement M
 says-bytes-spec =
     tie.close
     (tie.spec
+    is-pointer-requires
     verdict-requires
     returns
-    cast-segment
-    mul-result
+    segment-requires
     returns-2
     mul-word
     add-word

@@ -3,8 +3,8 @@ use mathlib.Core.Path.{sym, ap, _∙_}
 use native.Mathlib.Omega.{arith}
 use Rattle.ground.proofs.Tests.{says, denies, cond-on, cond-off}
 use Rattle.cells.specs.Cells.{hopOf}
-use Rattle.lookup.specs.Lookup.{refused, found, packed}
 use Rattle.cells.proofs.Direct.{isDirect?}
+use Rattle.lookup.specs.Lookup.{refused, found, packed}
 use borrow.Author.Needs.{needs}
 use Rattle.lookup.proofs.look.direct_or_damage.Statement.{statement}
 use Rattle.lookup.proofs.look.direct_or_damage.Tie as tie
@@ -22,9 +22,6 @@ returns c =
     let e = cond-on (found (hopOf (s .cell))) (refused 4) direct (says direct (sym (c .before .before .is-direct .ensures) ∙ c .before .if1 .taken)) in
     omega (arith, ap packed e)
 
-mul-result : tie.Need-mul-result
-mul-result c = search needs
-
 returns-2 : tie.Need-returns-2
 returns-2 c =
     let s = c .before .before .args in
@@ -34,4 +31,4 @@ returns-2 c =
 pub direct-or-damage-spec : {M : Type 1} → statement M
 direct-or-damage-spec =
     tie.close
-    (tie.spec is-direct-requires hop-requires returns mul-result returns-2)
+    (tie.spec is-direct-requires hop-requires returns returns-2)

@@ -1,37 +1,39 @@
 -- `look::says` meets its contract: a law of `Answers` for each way out. Assumes nothing.
 use mathlib.Core.Path.{sym, ap, _∙_}
-use Prim.Native.Nat.{_/_, _<_}
+use Prim.Native.Nat.{_+_, _*_, _/_, _≤_, _<_}
 use native.Mathlib.Omega.{arith}
-use lib.ListN.{length}
+use lib.ListN.{length, getD}
 use denote.Ref.{now}
-use Rattle.cells.specs.Cells.{segmentOf}
-use Rattle.lookup.specs.Lookup.{packed}
+use Rattle.ground.proofs.Tests.{leb?, if-so, if-not}
+use Rattle.prefix.specs.Geometry.{blockSize}
+use Rattle.cells.specs.Cells.{pointerBit, segmentOf}
+use Rattle.lookup.specs.Lookup.{verdictOf, packed}
 use Rattle.lookup.proofs.Answers.{decides, hands-on, not-lent}
 use borrow.Author.Needs.{needs}
 use Rattle.lookup.proofs.look.says.Statement.{statement}
 use Rattle.lookup.proofs.look.says.Tie as tie
+
+is-pointer-requires : tie.Need-is-pointer-requires
+is-pointer-requires c κs = search needs
 
 verdict-requires : tie.Need-verdict-requires
 verdict-requires c κs = search needs
 
 returns : tie.Need-returns
 returns c =
-    let s = c .before .before .before .args in c .verdict .ensures ∙ sym (ap packed (decides (now (s .long)) (s .low) (s .cell) (omega arith)))
+    let s = c .before .before .before .before .args in
+    let direct = if-not (leb? pointerBit (s .cell)) (c .before .before .is-pointer .ensures) (c .before .if1 .taken) in
+    c .verdict .ensures ∙ sym (ap packed (decides (now (s .long)) (s .low) (s .cell) direct))
 
-cast-segment : tie.Need-cast-segment
-cast-segment c = search needs
-
-mul-result : tie.Need-mul-result
-mul-result c = search needs
+-- past the first test, the cell is a pointer
+segment-requires : tie.Need-segment-requires
+segment-requires c κs = if-so (leb? pointerBit (c .before .before .before .args .cell)) (c .before .is-pointer .ensures) (c .if1 .left)
 
 returns-2 : tie.Need-returns-2
 returns-2 c =
-    let s = c .before .before .before .args in
-    sym (ap packed (not-lent (now (s .long)) (s .low) (s .cell) (omega arith) (omega arith)))
-
--- past the second test, the segment is lent
-lent : (c : tie.Else2) → let s = c .before .before .before .args in segmentOf (s .cell) < length (now (s .long)) / 256
-lent c = omega (arith, c .if2 .left)
+    let s = c .before .before .before .before .before .args in
+    let astray : length (now (s .long)) / blockSize ≤ segmentOf (s .cell) = omega (arith, c .if2 .taken) in
+    sym (ap packed (not-lent (now (s .long)) (s .low) (s .cell) (segment-requires (c .before .before) tt) astray))
 
 mul-verdict : tie.Need-mul-verdict
 mul-verdict c = search needs
@@ -43,25 +45,27 @@ mul-verdict-2 : tie.Need-mul-verdict-2
 mul-verdict-2 c = search needs
 
 shared-slice-read-verdict : tie.Need-shared-slice-read-verdict
-shared-slice-read-verdict c = omega (arith, lent (c .before))
+shared-slice-read-verdict c = omega arith
 
 verdict-requires-2 : tie.Need-verdict-requires-2
 verdict-requires-2 c κs = search needs
 
 returns-3 : tie.Need-returns-3
 returns-3 c =
-    let s = c .before .before .before .before .before .args in
+    let s = c .before .before .before .before .before .before .before .args in
+    let lent : segmentOf (s .cell) < length (now (s .long)) / blockSize = omega (arith, c .before .before .if2 .left) in
     c .verdict2 .ensures
-    ∙ sym (ap packed (hands-on (now (s .long)) (s .low) (s .cell) (omega arith) (lent (c .before .before))))
+    ∙ ap (λ k. packed (verdictOf 32 (getD (now (s .long)) (k * blockSize + s .low) 0))) (c .before .before .before .segment .ensures)
+    ∙ sym (ap packed (hands-on (now (s .long)) (s .low) (s .cell) (segment-requires (c .before .before .before .before) tt) lent))
 
 pub says-spec : {M : Type 1} → statement M
 says-spec =
     tie.close
     (tie.spec
+    is-pointer-requires
     verdict-requires
     returns
-    cast-segment
-    mul-result
+    segment-requires
     returns-2
     mul-verdict
     add-verdict

@@ -4,7 +4,7 @@ use native.Mathlib.Nat.{mod-le}
 use native.Mathlib.Omega.{arith}
 use Rattle.ground.proofs.Tests.{cond-on, cond-off}
 use Rattle.prefix.specs.Prefixes.{span}
-use Rattle.lookup.specs.Lookup.{standingOf}
+use Rattle.lookup.specs.inner.Standing.{standingOf}
 use Rattle.cells.proofs.Lending.{LentToRead, lentToRead?}
 use Rattle.prefix.proofs.Prefixes.{cleared?}
 use borrow.Author.Needs.{needs}

@@ -1,16 +1,16 @@
 -- `show::show_code` meets its contract: where `standing` answers 0 the first cell is there, and it is refused exactly if it points astray.
 -- Assumes nothing.
-use mathlib.Core.Path.{_≡_, sym, _∙_}
-use Prim.Native.Nat.{_/_, _<_}
+use mathlib.Core.Path.{_≡_, ap}
+use Prim.Native.Nat.{_/_, _≤_, _<_}
 use native.Mathlib.Omega.{arith}
-use lib.ListN.{length}
+use lib.ListN.{length, getD}
 use denote.Ref.{now}
-use Rattle.ground.proofs.Tests.{cond-on, cond-off}
-use Rattle.cells.specs.Cells.{segmentOf}
-use Rattle.prefix.specs.Geometry.{blockOf}
+use Rattle.ground.proofs.Tests.{leb?, if-so, if-not}
+use Rattle.prefix.specs.Geometry.{blockSize}
+use Rattle.cells.specs.Cells.{pointerBit, segmentOf}
 use Rattle.lookup.specs.Show.{firstCell, showCode}
-use Rattle.lookup.proofs.Reading.{Stands, stands, small-standing, past-base, block-lent, goes-on, stops-at}
-use Rattle.lookup.proofs.Showing.{astray?}
+use Rattle.lookup.proofs.Reading.{Stands, stands, past-base, block-lent, stops-at}
+use Rattle.lookup.proofs.Showing.{refuses, accepts}
 use borrow.Author.Needs.{needs}
 use Rattle.lookup.proofs.show.show_code.Statement.{statement}
 use Rattle.lookup.proofs.show.show_code.Tie as tie
@@ -21,58 +21,58 @@ standing-requires c κs = search needs
 returns : tie.Need-returns
 unfolding showCode
 returns c =
-    let s = c .before .before .before .before .args in
     let refused-at : ¬ (c .before .standing .result ≡ 0) = omega (arith, c .if1 .taken) in
-    stops-at (λ n. n) (length (now (s .first))) (length (now (s .long))) (s .territory) (s .address) _
-    (c .before .standing .result) (c .before .standing .ensures) refused-at
+    stops-at (λ n. n) _ _ _ _ _ _ (c .before .standing .ensures) refused-at
 
 -- past the first test, the call may read
 may-read : (c : tie.Else1) → let s = c .before .before .before .before .args in
     Stands (length (now (s .first))) (length (now (s .long))) (s .territory) (s .address)
-may-read c =
-    let s = c .before .before .before .before .args in
-    let small = small-standing (length (now (s .first))) (length (now (s .long))) (s .territory) (s .address) in
-    let zero : c .before .standing .result ≡ 0 = omega (arith, c .before .standing .ensures, c .if1 .left) in
-    stands (length (now (s .first))) (length (now (s .long))) (s .territory) (s .address) (sym (c .before .standing .ensures) ∙ zero)
+may-read c = let zero : c .before .standing .result ≡ 0 = omega (arith, c .if1 .left) in stands (c .before .standing .ensures) zero
 
-sub-cell : tie.Need-sub-cell
-sub-cell c = past-base (may-read (c .before))
-
-cast-cell : tie.Need-cast-cell
-cast-cell c = search needs
+block-of-requires : tie.Need-block-of-requires
+block-of-requires c κs = past-base (may-read c)
 
 mul-cell : tie.Need-mul-cell
 mul-cell c = search needs
 
 shared-slice-read-cell : tie.Need-shared-slice-read-cell
-shared-slice-read-cell c = block-lent (may-read (c .before .before))
+shared-slice-read-cell c = omega (arith, block-lent (may-read (c .before .before)))
+
+is-pointer-requires : tie.Need-is-pointer-requires
+is-pointer-requires c κs = search needs
+
+-- what is read there is the first cell
+read : (c : tie.After-block-of) → let s = c .before .before .before .before .before .args in
+    getD (now (s .first)) (c .block-of .result) 0 ≡ firstCell (now (s .first)) (s .territory) (s .address)
+read c = ap (λ k. getD (now (c .before .before .before .before .before .args .first)) k 0) (c .block-of .ensures)
 
 returns-2 : tie.Need-returns-2
-unfolding showCode
 returns-2 c =
-    let s = c .before .before .before .before .before .before .before .args in
-    sym (cond-off 4 0 (astray? (now (s .first)) (now (s .long)) (s .territory) (s .address)) (λ h. omega (arith, h .pointer)))
-    ∙ goes-on (λ n. n) (length (now (s .first))) (length (now (s .long))) (s .territory) (s .address) _ (may-read (c .before .before .before))
+    let s = c .before .before .before .before .before .before .before .before .args in
+    let known = c .before .before .before in
+    let direct = if-not (leb? pointerBit (getD (now (s .first)) (known .block-of .result) 0)) (c .before .is-pointer .ensures) (c .if2 .taken) in
+    accepts (now (s .first)) (now (s .long)) (s .territory) (s .address) (may-read (known .before))
+    (λ h. direct (omega (arith, h .pointer, read known)))
 
-cast-if3 : tie.Need-cast-if3
-cast-if3 c =
-    let s = c .before .before .before .before .before .before .before .args in
-    omega (arith, c .before .shared-slice-known3 .given (blockOf (s .territory) (s .address)))
+segment-requires : tie.Need-segment-requires
+segment-requires c κs = if-so (leb? pointerBit _) (c .before .is-pointer .ensures) (c .if2 .left)
 
 returns-3 : tie.Need-returns-3
-unfolding showCode
 returns-3 c =
-    let s = c .before .before .before .before .before .before .before .before .args in
-    sym (cond-on 4 0 (astray? (now (s .first)) (now (s .long)) (s .territory) (s .address)) (record { pointer = omega arith; not-lent = omega arith }))
-    ∙ goes-on (λ n. n) (length (now (s .first))) (length (now (s .long))) (s .territory) (s .address) _ (may-read (c .before .before .before .before))
+    let s = c .before .before .before .before .before .before .before .before .before .before .args in
+    let known = c .before .before .before .before .before in
+    let cell = firstCell (now (s .first)) (s .territory) (s .address) in
+    let pointer : pointerBit ≤ cell = omega (arith, segment-requires (c .before .before) tt, read known) in
+    let astray : length (now (s .long)) / blockSize ≤ segmentOf cell = omega (arith, c .if3 .taken, read known) in
+    refuses (now (s .first)) (now (s .long)) (s .territory) (s .address) (may-read (known .before)) (record { pointer = pointer; not-lent = astray })
 
 returns-4 : tie.Need-returns-4
-unfolding showCode
 returns-4 c =
-    let s = c .before .before .before .before .before .before .before .before .args in
-    let lent : segmentOf (firstCell (now (s .first)) (s .territory) (s .address)) < length (now (s .long)) / 256 = omega (arith, c .if3 .left) in
-    sym (cond-off 4 0 (astray? (now (s .first)) (now (s .long)) (s .territory) (s .address)) (λ h. omega (arith, h .not-lent)))
-    ∙ goes-on (λ n. n) (length (now (s .first))) (length (now (s .long))) (s .territory) (s .address) _ (may-read (c .before .before .before .before))
+    let s = c .before .before .before .before .before .before .before .before .before .before .args in
+    let known = c .before .before .before .before .before in
+    let cell = firstCell (now (s .first)) (s .territory) (s .address) in
+    let lent : segmentOf cell < length (now (s .long)) / blockSize = omega (arith, c .if3 .left, read known) in
+    accepts (now (s .first)) (now (s .long)) (s .territory) (s .address) (may-read (known .before)) (λ h. omega (arith, h .not-lent))
 
 pub show-code-spec : {M : Type 1} → statement M
 show-code-spec =
@@ -80,11 +80,11 @@ show-code-spec =
     (tie.spec
     standing-requires
     returns
-    sub-cell
-    cast-cell
+    block-of-requires
     mul-cell
     shared-slice-read-cell
+    is-pointer-requires
     returns-2
-    cast-if3
+    segment-requires
     returns-3
     returns-4)

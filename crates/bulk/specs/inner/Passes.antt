@@ -1,9 +1,11 @@
--- What each pass makes of one answer. The room for the answers holds in turn a place in the first table, the cell there, that cell's
+-- What each pass makes of one answer, and of all. The room for the answers holds in turn a place in the first table, the cell there, that cell's
 -- verdict or the cell itself where it is a pointer, and the answer. Assumes nothing.
 use Prim.Native.Nat.{ℕ, _+_, _-_, _/_, _%_, _^_}
 use mathlib.Core.Bool.{cond}
 use mathlib.Core.List.{List}
 use lib.Dec.{ltb}
+use lib.ListN.{getD}
+use Rattle.ground.specs.Lists.{mapAt}
 use Rattle.prefix.specs.Geometry.{width, blockSize}
 use Rattle.cells.specs.Cells.{isPointer}
 use Rattle.lookup.specs.Lookup.{refused, verdictOf, saysOf, packed}
@@ -27,3 +29,17 @@ judged base blocks address cell = cond (ltb (blockFrom base address) blocks) (sa
 -- what a pointer says; no number of an answer is one
 unfoldable pub settled : List ℕ → ℕ → ℕ → ℕ
 settled long address word = cond (isPointer word) (packed (saysOf long (address % blockSize) word)) word
+
+-- ---- the passes, each over all answers
+
+abbrev pub placedAll : ℕ → ℕ → List ℕ → List ℕ → List ℕ
+placedAll base blocks addresses answers = mapAt (λ i x. placeOf base blocks (getD addresses i 0)) answers
+
+abbrev pub fetchedAll : List ℕ → List ℕ → List ℕ
+fetchedAll first answers = mapAt (λ i x. getD first x 0) answers
+
+abbrev pub judgedAll : ℕ → ℕ → List ℕ → List ℕ → List ℕ
+judgedAll base blocks addresses answers = mapAt (λ i x. judged base blocks (getD addresses i 0) x) answers
+
+abbrev pub settledAll : List ℕ → List ℕ → List ℕ → List ℕ
+settledAll long addresses answers = mapAt (λ i x. settled long (getD addresses i 0) x) answers

@@ -1,0 +1,2 @@
+-- What serves the passes over the answers.
+pub mod Passes

@@ -1,0 +1,2 @@
+-- What the functions that several calls share answer.
+pub mod Standing

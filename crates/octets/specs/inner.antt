@@ -1,0 +1,2 @@
+-- What serves the loop over many answers.
+pub mod Numbers
