@@ -24,7 +24,8 @@ use Rattle.octets.specs.Words.{wordCount}
 use Rattle.octets.specs.Booking.{Outcome, refusalOf, enter, book}
 use Rattle.octets.specs.Many.{bookEach}
 use Rattle.octets.specs.Bookings.{wordsAfter, isAccepted, names, answerTo, octetsFor, alsoAll}
-use Rattle.octets.proofs.Entering.{Told, told-look, names?, Did, took, left, did-book, not-gained}
+use Rattle.lookup.proofs.Answers.{Told, told-look}
+use Rattle.octets.proofs.Entering.{names?, Did, took, left, did-book, not-gained}
 use Rattle.octets.proofs.Balancing.{balances, many-booked}
 use Rattle.charges.specs.Charges.{Unrouted, IsCharged, to-hop, to-none, Charges, Account, cleared, updated, carried, updates, flowOf, flows, carriedAll, wordsNow, wordBy, chargedTo, octetsTo, Charged}
 

@@ -42,7 +42,7 @@ module _ (t : Prefix) (r : Route) (rs : List Route) (T : Tables) (H : TablesOf t
 
   -- which blocks are open then
   also : (k : ℕ) (x : Bool) → opens width (r .prefix) (blockStart t k) ≡ x → Q k ≡ x || O k
-  also k x o = opened-with width r rs (blockStart t k) route all ∙ ap (λ (y : Bool). y || O k) o
+  also k x o = opened-with width r rs (blockStart t k) ∙ ap (λ (y : Bool). y || O k) o
 
   others : (k : ℕ) → ¬ (k ≡ b) → Q k ≡ O k
   others k d = also k false (stops (opens? width (r .prefix) (blockStart t k)) (λ o. d (opens-only t (r .prefix) k h e o)))
@@ -95,7 +95,7 @@ module _ (t : Prefix) (r : Route) (rs : List Route) (T : Tables) (H : TablesOf t
   -- ---- what the count needs: no block closes, and one that was open keeps its pointer
 
   pub only-opening : (k : ℕ) → O k ≡ true → Q k ≡ true
-  only-opening k o = opened-with width r rs (blockStart t k) route all ∙ ap (λ (y : Bool). opens width (r .prefix) (blockStart t k) || y) o ∙ or-true (opens width (r .prefix) (blockStart t k))
+  only-opening k o = opened-with width r rs (blockStart t k) ∙ ap (λ (y : Bool). opens width (r .prefix) (blockStart t k) || y) o ∙ or-true (opens width (r .prefix) (blockStart t k))
 
   opened-first : (k : ℕ) → O k ≡ true → getD (openedFor t (r .prefix) T .first) k 0 ≡ getD (T .first) k 0
   unfolding openedFor openedAt

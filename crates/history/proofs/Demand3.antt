@@ -60,7 +60,7 @@ unfolding retabled
 local t (puts r) rs m I A = record {
   elsewhere = λ a n. sym (best-with r rs a (A .route) (I .list .all) ∙ better-off r a (best rs a) n);
   as-open = λ k n.
-      opened-with width r rs (blockStart t k) (A .route) (I .list .all)
+      opened-with width r rs (blockStart t k)
       ∙ ap (λ (y : Bool). y || isOpen rs (blockStart t k)) (stops (opens? width (r .prefix) (blockStart t k)) n);
   way = opening (λ k h o. only-opening t r rs (m .tables) (I .tables) (territory I) (A .route) (A .inside) (I .list .all) k o);
   pointers = λ k h o q. announced-keeps t r rs (m .tables) (I .tables) (territory I) (A .route) (A .inside) (I .list .all) (A .free) k h o;
@@ -70,8 +70,8 @@ local t (puts r) rs m I A = record {
 local t (takes p) rs m I A =
     let L = A .lives in
     record {
-      elsewhere = λ a n. sym (without-other p rs a (I .list .all) (I .list .order) (A .formed) (λ c. n (c .0)));
-      as-open = λ k n. opened-without-other width p rs (blockStart t k) (I .list .all) (A .formed) n;
+      elsewhere = λ a n. sym (without-other p rs a (I .list .all) (I .list .order) (λ c. n (c .0)));
+      as-open = λ k n. opened-without-other width p rs (blockStart t k) n;
       way = closing (λ k h q.
           only-closing t p rs (m .tables) (I .tables) (territory I) (A .formed) (A .inside) (I .list .all) (I .list .order) (L .0) (L .1) (L .2) k q);
       pointers = λ k h o q.

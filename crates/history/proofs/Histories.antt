@@ -13,7 +13,7 @@ use Rattle.rules.specs.Rules.{routes, isLive}
 use Rattle.rules.proofs.Indices.{isLive?}
 use Rattle.cells.specs.Memory.{Lent, IsLent}
 use Rattle.cells.proofs.Lending.{isLent?}
-use Rattle.refusals.proofs.Refusing.{live-passed, room-passed}
+use Rattle.refusals.proofs.Refusing.{live-passed, room-passed, admitted, live-needs-none}
 use Rattle.refusals.specs.Codes.{clearCode, announces, withdraws, re-homes, code, Call, change}
 use Rattle.updates.specs.Effects.{cleared, effect}
 use Rattle.updates.specs.Calls.{Outcome, accepted, refused, outcome, clear, step}

@@ -8,10 +8,10 @@ use Prim.Native.Nat.{ℕ, suc, _+_, _-_, _*_, _≤_, _<_}
 use native.Mathlib.Omega.{arith}
 use lib.ListN.{length, getD, replicate, length-set, length-replicate, getD-replicate, List·getD-eq-default}
 use Rattle.ground.proofs.Tests.{eqb?, stops}
+use Rattle.prefix.proofs.Order.{samePrefix?, before-other, before-trans}
 use Rattle.ground.proofs.Cases.{by-lt}
 use Rattle.prefix.specs.declared.Prefix.{Prefix}
-use Rattle.prefix.proofs.Order.{key}
-use Rattle.prefix.specs.Prefixes.{WellFormed, Encloses}
+use Rattle.prefix.specs.Prefixes.{WellFormed, Encloses, Before}
 use Rattle.prefix.specs.Geometry.{Territory, blockStart, blockOf, blockSize}
 use Rattle.prefix.specs.Price.{opened as opened-run}
 use Rattle.prefix.specs.Routes.{Route, best, with-route, without, keep, other, IsRoute, AllRoutes, Ascending, Change, applied, puts, takes}
@@ -96,19 +96,19 @@ length-live r [] o e = absurd (false≢true e)
 length-live r (s ∷ ss) o e =
     with-cases (λ us. length us ≡ suc (length ss)) r s ss (λ h. absurd (gone h)) (λ h. refl) (λ h. ap suc (length-live r ss (o .1) (later h)))
   where
-    -- in order, a prefix below the first is not live
-    none : (ss : List Route) → ((u : Route) → Mem u ss → key (r .prefix) < key (u .prefix)) → isLive (r .prefix) ss ≡ false
+    -- in order, a prefix before the first is not live
+    none : (ss : List Route) → ((u : Route) → Mem u ss → Before (r .prefix) (u .prefix)) → isLive (r .prefix) ss ≡ false
     none [] low = refl
     none (u ∷ us) low =
-        rw (stops (eqb? (key (u .prefix)) (key (r .prefix))) (λ q. let g = low u (here refl) in omega arith)) (none us (λ v i. low v (there i)))
+        rw (stops (samePrefix? (u .prefix) (r .prefix)) (λ q. before-other (low u (here refl)) (sym q))) (none us (λ v i. low v (there i)))
 
-    gone : key (r .prefix) < key (s .prefix) → ⊥
+    gone : Before (r .prefix) (s .prefix) → ⊥
     gone h =
-        false≢true (sym (rw (stops (eqb? (key (s .prefix)) (key (r .prefix))) (λ q. omega arith))
-        (none ss (λ u i. let g = o .0 u i in omega arith))) ∙ e)
+        false≢true (sym (rw (stops (samePrefix? (s .prefix) (r .prefix)) (λ q. before-other h (sym q)))
+        (none ss (λ u i. before-trans h (o .0 u i)))) ∙ e)
 
-    later : key (s .prefix) < key (r .prefix) → isLive (r .prefix) ss ≡ true
-    later h = sym (rw (stops (eqb? (key (s .prefix)) (key (r .prefix))) (λ q. omega arith))) ∙ e
+    later : Before (s .prefix) (r .prefix) → isLive (r .prefix) ss ≡ true
+    later h = sym (rw (stops (samePrefix? (s .prefix) (r .prefix)) (before-other h))) ∙ e
 
 -- one taken out makes it no longer
 length-without : (p : Prefix) (rs : List Route) → length (without p rs) ≤ length rs

@@ -95,7 +95,7 @@ unpaint-best p rs a all order w =
     rw (unpaints (best rs a) (p .length) (best-good rs a all)) (go (contains p a) (hasLength (best rs a) (p .length)) (contains? p a) refl)
   where
     other : ¬ ((Contains p a) × (hasLength (best rs a) (p .length) ≡ true)) → cellOf (best rs a) ≡ cellOf (best (without p rs) a)
-    other n = ap cellOf (sym (without-other p rs a all order w n))
+    other n = ap cellOf (sym (without-other p rs a all order n))
 
     go : (x y : Bool) → Decides (Contains p a) x → hasLength (best rs a) (p .length) ≡ y
         → cond x (cond y (cellOf (best (without p rs) a)) (cellOf (best rs a))) (cellOf (best rs a)) ≡ cellOf (best (without p rs) a)

@@ -8,6 +8,7 @@ use native.Mathlib.Omega.{arith}
 use lib.Dec.{eqb}
 use lib.ListN.{length, getD}
 use Rattle.ground.proofs.Tests.{passes, says}
+use Rattle.refusals.proofs.Refusing.{named-formed}
 use Rattle.updates.specs.Effects.{effect}
 use Rattle.prefix.specs.declared.Prefix.{Prefix}
 use Rattle.prefix.specs.Prefixes.{encloses, WellFormed, Encloses}

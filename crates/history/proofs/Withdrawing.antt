@@ -44,7 +44,7 @@ module _ (t p : Prefix) (rs : List Route) (T : Tables) (H : TablesOf t rs T) (h 
 
   -- a block that the prefix does not open is as open as it was
   same-open : (k : ℕ) → ¬ Opens width p (blockStart t k) → Q k ≡ O k
-  same-open k n = opened-without-other width p rs (blockStart t k) all w n
+  same-open k n = opened-without-other width p rs (blockStart t k) n
 
   others : (k : ℕ) → ¬ (k ≡ b) → Q k ≡ O k
   others k d = same-open k (λ o. d (opens-only t p k h e o))

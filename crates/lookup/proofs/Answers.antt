@@ -8,6 +8,7 @@ use native.Mathlib.Omega.{arith}
 use lib.Dec.{ltb, eqb, lit≤, lit<}
 use lib.ListN.{length, getD}
 use Rattle.ground.proofs.Tests.{Decides, holds, fails, leb?, ltb?, cond-on, cond-off}
+use Rattle.prefix.specs.Routes.{lastHop}
 use Rattle.prefix.specs.declared.Prefix.{Prefix}
 use Rattle.prefix.specs.Prefixes.{contains}
 use Rattle.prefix.specs.Geometry.{width, blockSize}
@@ -45,7 +46,7 @@ by-low long low m cell n e h = e ∙ ap (λ (x : ℕ). packed (saysOf long x cel
 -- both parts are small; a refusal has no hop, and what is no refusal has one
 pub record Told (r : Answer) : Type 0 where
   pub code : r .code ≤ 8
-  pub hop : r .hop ≤ 32767
+  pub hop : r .hop ≤ lastHop
   pub refusal : (r .code ≡ 0 → ⊥) → r .hop ≡ 0
   pub route : r .code ≡ 0 → 0 < r .hop
 
