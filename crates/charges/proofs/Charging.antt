@@ -16,7 +16,7 @@ use Rattle.prefix.proofs.Best.{best-is, longest-unique}
 use Rattle.lookup.specs.declared.look.Answer.{Answer}
 use Rattle.lookup.specs.Lookup.{refused, saysOf, lookUp}
 use Rattle.cells.specs.Memory.{lentToRead, Lent, IsLent}
-use Rattle.prefix.specs.Geometry.{blockOf}
+use Rattle.prefix.specs.Geometry.{blockOf, blockSize}
 use Rattle.history.specs.History.{History, memory, live, IsAnswer, routed, no-route}
 use Rattle.history.proofs.Histories.{inv-history}
 use Rattle.history.proofs.Demand2.{demand-2}

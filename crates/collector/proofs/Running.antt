@@ -1,10 +1,10 @@
 -- Pieces of the input, one after another, and the last line of a history. Assumes nothing.
 use mathlib.Core.Path.{_≡_, refl, sym, ap, ap₂, subst, _∙_}
-use mathlib.Core.Bool.{true, false, true≢false}
+use mathlib.Core.Bool.{false, true≢false}
 use mathlib.Core.List.{List, [], _++_}
-use Prim.Native.Nat.{ℕ, _+_, _-_, _%_, _≤_}
+use Prim.Native.Nat.{ℕ, _%_, _≤_}
 use native.Mathlib.Omega.{arith}
-use lib.ListN.{length, take, length-append}
+use lib.ListN.{length, length-append}
 use Rattle.prefix.specs.declared.Prefix.{Prefix}
 use Rattle.prefix.specs.Prefixes.{Contains}
 use Rattle.lookup.specs.Lookup.{lookUp}
@@ -12,7 +12,7 @@ use Rattle.records.specs.Record.{size}
 use Rattle.cells.specs.Memory.{Lent, IsLent}
 use Rattle.history.specs.History.{start, memory, live, IsAnswer}
 use Rattle.updates.specs.declared.Report.{Report}
-use Rattle.updates.specs.Calls.{clear, Meets}
+use Rattle.updates.specs.Calls.{clear}
 use Rattle.history.proofs.Demand2.{demand-2}
 use Rattle.stream.specs.declared.Step.{Step}
 use Rattle.stream.specs.declared.Step.the-variants.{Expects, Refused}

@@ -1,7 +1,6 @@
 // The loop of the program: bytes are read into a buffer, the records in it are taken, and their lines are printed.
 ghost use mathlib.Core.Path.{_≡_};
 ghost use lib.ListN.{length};
-ghost use Rattle.history.specs.History.{memory};
 ghost use Rattle.cells.proofs.Lending.{LentToUpdate};
 ghost use Rattle.collector.specs.Running.{site, countOf, nextOf, lastOf, Handed, LastIs};
 use crate::input;

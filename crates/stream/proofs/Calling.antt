@@ -1,17 +1,16 @@
 -- What an update does by its kind, and what one record comes to by the tests that lead there. Assumes nothing.
-use mathlib.Core.Path.{_≡_, refl, sym, ap, subst, _∙_}
+use mathlib.Core.Path.{_≡_, refl, sym, ap, _∙_}
 use mathlib.Core.List.{List}
 use Prim.Native.Nat.{ℕ}
 use Rattle.ground.proofs.Tests.{eqb?, cond-on, cond-off}
 use Rattle.prefix.specs.declared.Prefix.{Prefix}
 use Rattle.records.specs.declared.Update.{Update}
 use Rattle.records.specs.declared.Reading.{Reading}
-use Rattle.records.specs.Record.{readAs, announce as announceKind, withdraw as withdrawKind, announce, withdraw, reHome}
+use Rattle.records.specs.Record.{readAs, announce as announceKind, withdraw as withdrawKind}
 use Rattle.rules.specs.Words.{routeBy}
 use Rattle.cells.specs.Memory.{Lent}
-use Rattle.history.specs.History.{memory}
 use Rattle.refusals.specs.Codes.{Call, announces, withdraws, re-homes}
-use Rattle.updates.specs.Calls.{step, Outcome, Meets}
+use Rattle.updates.specs.Calls.{Outcome, reported, step}
 use Rattle.updates.specs.declared.Report.{Report}
 use Rattle.stream.specs.Stream.{callOf}
 use Rattle.stream.specs.Taking.{TurnIs}

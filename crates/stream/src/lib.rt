@@ -4,8 +4,8 @@ ghost use mathlib.Core.Path.{_≡_};
 ghost use Prim.Native.Nat.{_+_, _*_, _≤_};
 ghost use mathlib.Core.List.{_∷_, _++_};
 ghost use lib.ListN.{length, take, drop};
-ghost use Rattle.updates.specs.Calls.{step, Meets};
-ghost use Rattle.history.specs.History.{memory};
+ghost use Rattle.cells.specs.Memory.{lentIn, lentOut};
+ghost use Rattle.updates.specs.Calls.{reported, step};
 ghost use Rattle.stream.specs.Stream.{callOf, recordsIn};
 ghost use Rattle.stream.specs.Taking.{TurnIs, TakenIs};
 

@@ -3,7 +3,6 @@ use mathlib.Core.Path.{_≡_, refl}
 use Prim.Native.Nat.{_+_, _-_, _≤_}
 use native.Mathlib.Omega.{arith}
 use lib.ListN.{length}
-use Rattle.history.specs.History.{memory}
 use Rattle.stream.proofs.Taking.{Going, going-start, going-done, going-refused, going-more, record-whole}
 use borrow.Author.Needs.{needs}
 use Rattle.stream.proofs.take_records.Statement.{statement}

@@ -2,7 +2,6 @@
 use mathlib.Core.Path.{_≡_}
 use native.Mathlib.Omega.{arith}
 use Rattle.cells.specs.Memory.{Lent}
-use Rattle.history.specs.History.{memory}
 use Rattle.stream.proofs.Calling.{announcing, withdrawing, re-homing}
 use borrow.Author.Needs.{needs}
 use Rattle.stream.proofs.take_update.Statement.{statement}

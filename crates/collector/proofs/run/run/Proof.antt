@@ -1,6 +1,5 @@
 -- `run` meets its contract: clear, then what was handed over, then the counts. Assumes nothing.
 use native.Mathlib.Omega.{arith}
-use Rattle.history.specs.History.{memory}
 use Rattle.updates.specs.Calls.{clear}
 use Rattle.collector.proofs.Running.{cleared-by, last-is}
 use borrow.Author.Needs.{needs}

@@ -2,7 +2,6 @@
 use mathlib.Core.Path.{_≡_, refl}
 use native.Mathlib.Omega.{arith}
 use lib.ListN.{length}
-use Rattle.history.specs.History.{memory}
 use Rattle.collector.specs.declared.run.Next.the-variants.{Expects}
 use Rattle.collector.specs.Running.{Handed}
 use Rattle.collector.proofs.Running.{handed-none, handed-more, handed-as, handed-on, handed-end, handed-stops}
