@@ -4,6 +4,7 @@ use mathlib.Core.Path.{_≡_, refl, subst}
 use mathlib.Core.List.{List, _∷_}
 use Prim.Native.Nat.{ℕ}
 use Rattle.prefix.specs.declared.Prefix.{Prefix}
+use Rattle.refusals.specs.Codes.{change}
 use Rattle.prefix.specs.Prefixes.{Contains}
 use Rattle.lookup.specs.Lookup.{lookUp}
 use Rattle.records.specs.declared.Update.{Update}

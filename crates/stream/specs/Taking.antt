@@ -6,7 +6,7 @@ use lib.ListN.{length, drop}
 use Rattle.prefix.specs.declared.Prefix.{Prefix}
 use Rattle.records.specs.Record.{readAs}
 use Rattle.cells.specs.Memory.{Lent}
-use Rattle.updates.specs.Calls.{step}
+use Rattle.updates.specs.Calls.{step, reported}
 use Rattle.stream.specs.declared.Turn.{Turn}
 use Rattle.stream.specs.declared.Taken.{Taken}
 use Rattle.stream.specs.Stream.{callOf, streamOf, lentAfter, linesOf}

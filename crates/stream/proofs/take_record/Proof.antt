@@ -1,7 +1,7 @@
 -- `take_record` meets its contract: each answer is a law of `Calling`, at the test that led there. Assumes nothing.
 use mathlib.Core.Path.{_≡_}
 use native.Mathlib.Omega.{arith}
-use Rattle.cells.specs.Memory.{Lent}
+use Rattle.cells.specs.Memory.{Lent, lent}
 use Rattle.stream.proofs.Calling.{turn-refused, turn-taken}
 use borrow.Author.Needs.{needs}
 use Rattle.stream.proofs.take_record.Statement.{statement}

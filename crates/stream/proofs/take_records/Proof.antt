@@ -4,6 +4,7 @@ use Prim.Native.Nat.{_+_, _-_, _≤_}
 use native.Mathlib.Omega.{arith}
 use lib.ListN.{length}
 use Rattle.stream.proofs.Taking.{Going, going-start, going-done, going-refused, going-more, record-whole}
+use Rattle.cells.specs.Memory.{lentOf}
 use borrow.Author.Needs.{needs}
 use Rattle.stream.proofs.take_records.Statement.{statement}
 use Rattle.stream.proofs.take_records.Tie as tie

@@ -1,7 +1,7 @@
 -- `take_update` meets its contract: each kind's law of `Calling`. Assumes nothing.
 use mathlib.Core.Path.{_≡_}
 use native.Mathlib.Omega.{arith}
-use Rattle.cells.specs.Memory.{Lent}
+use Rattle.cells.specs.Memory.{Lent, lent}
 use Rattle.stream.proofs.Calling.{announcing, withdrawing, re-homing}
 use borrow.Author.Needs.{needs}
 use Rattle.stream.proofs.take_update.Statement.{statement}
