@@ -12,7 +12,7 @@ use Rattle.records.specs.Record.{size}
 use Rattle.cells.specs.Memory.{Lent, IsLent}
 use Rattle.history.specs.History.{start, memory, live, IsAnswer}
 use Rattle.updates.specs.declared.Report.{Report}
-use Rattle.updates.specs.Calls.{clear}
+use Rattle.updates.specs.Calls.{clear, reported, Outcome}
 use Rattle.history.proofs.Demand2.{demand-2}
 use Rattle.stream.specs.declared.Step.{Step}
 use Rattle.stream.specs.declared.Step.the-variants.{Expects, Refused}

@@ -1,7 +1,6 @@
 // The loop of the program: bytes are read into a buffer, the records in it are taken, and their lines are printed.
 ghost use mathlib.Core.Path.{_≡_};
-ghost use lib.ListN.{length};
-ghost use Rattle.cells.proofs.Lending.{LentToUpdate};
+ghost use Rattle.cells.specs.Memory.{IsLent, lent, lentIn, lentOut};
 ghost use Rattle.collector.specs.Running.{site, countOf, nextOf, lastOf, Handed, LastIs};
 use crate::input;
 use crate::input::After;
@@ -137,7 +136,7 @@ fn last_of(next: Next, live: u64, opened: u64) -> Last
 
 // From cleared memory, the whole stream, and the numbers of the last line.
 pub fn run(first: &mut [u32], long: &mut [u32], owners: &mut [u32], rules: &mut [u64]) -> Last
-    requires { ⌜ LentToUpdate (length (now first)) (length (now long)) (length (now owners)) (length (now rules)) site ⌝ }
+    requires { ⌜ IsLent (lent first long owners rules) site ⌝ }
     ensures { λ r. ⌜ LastIs (lentIn first long owners rules) r (lentOut first long owners rules) ⌝ }
 {
     updates::clear(first, long, owners, rules, territory());

@@ -1,6 +1,7 @@
 -- `run` meets its contract: clear, then what was handed over, then the counts. Assumes nothing.
 use native.Mathlib.Omega.{arith}
 use Rattle.updates.specs.Calls.{clear}
+use Rattle.cells.specs.Memory.{lent}
 use Rattle.collector.proofs.Running.{cleared-by, last-is}
 use borrow.Author.Needs.{needs}
 use Rattle.collector.proofs.run.run.Statement.{statement}

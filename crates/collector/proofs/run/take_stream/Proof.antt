@@ -3,6 +3,7 @@ use mathlib.Core.Path.{_≡_, refl}
 use native.Mathlib.Omega.{arith}
 use lib.ListN.{length}
 use Rattle.collector.specs.declared.run.Next.the-variants.{Expects}
+use Rattle.cells.specs.Memory.{lentOf}
 use Rattle.collector.specs.Running.{Handed}
 use Rattle.collector.proofs.Running.{handed-none, handed-more, handed-as, handed-on, handed-end, handed-stops}
 use borrow.Author.Needs.{needs}
