@@ -3,11 +3,9 @@
 --   `Ranks`  which of two hops ranks before the other (`before`)
 --   `Order`  a strict total order: `before` is one (`before-order`, proofs/Costs.antt)
 --   `Sheet`  each hop once, each before the next; one list only is so (`one-ranking`, proofs/Unique.antt)
---   `Heap`   a heap in a list, for any order, and what a step of heap sort leaves
---   `Quick`  a run of a list, for any order, and what a step of quick sort leaves
+--   `inner`  what the steps of the sort leave
 pub mod Lines
 pub mod Ranks
 pub mod Order
 pub mod Sheet
-pub mod Heap
-pub mod Quick
+pub mod inner

@@ -51,7 +51,8 @@ fn by_cents(x: u64, y: u64, a: u32, b: u32) -> bool
 fn line_before(octets_a: u64, cents_a: u64, octets_b: u64, cents_b: u64, a: u32, b: u32) -> bool
     requires { ⌜ («octets_a» ≤ most) × («cents_a» ≤ most) ⌝ }
     requires { ⌜ («octets_b» ≤ most) × («cents_b» ≤ most) ⌝ }
-    ensures { λ r. ⌜ r ≡ tieBroken (ahead «octets_a» «cents_a» «octets_b» «cents_b») (ahead «octets_b» «cents_b» «octets_a» «cents_a») a b ⌝ }
+    ensures { λ r. ⌜ r
+        ≡ tieBroken (ahead «octets_a» «cents_a» «octets_b» «cents_b») (ahead «octets_b» «cents_b» «octets_a» «cents_a») a b ⌝ }
 {
     let class_a = class(octets_a, cents_a);
     let class_b = class(octets_b, cents_b);

@@ -88,7 +88,8 @@ pub extern "C" fn rk_announce(
     hop: u32,
 ) -> Report
     ensures { λ r. ⌜ reported r (lentOut first «long_table» owners rules)
-        ≡ step (prefixBy base «base_length») (announces (routeBy (prefixBy address length) hop)) (lentIn first «long_table» owners rules) ⌝ }
+        ≡ step (prefixBy base «base_length») (announces (routeBy (prefixBy address length) hop))
+        (lentIn first «long_table» owners rules) ⌝ }
 {
     let territory = Prefix {
         address: base,

@@ -93,7 +93,8 @@ fn take_record(
 // Leaves the line of a record, after the lines of `before` others.
 fn put_line(lines: &mut [u32], before: usize, serial: u32, report: Report)
     requires { ⌜ 3 * before + 3 ≤ length (now lines) ⌝ }
-    ensures { λ _. ⌜ now (lines .exit) ≡ take (3 * before) (now (lines .entry)) ++ (serial ∷ report .code ∷ report .cells ∷ drop (3 * before + 3) (now (lines .entry))) ⌝ }
+    ensures { λ _. ⌜ now (lines .exit) ≡ take (3 * before) (now (lines .entry))
+        ++ (serial ∷ report .code ∷ report .cells ∷ drop (3 * before + 3) (now (lines .entry))) ⌝ }
 {
     let at = 3 * before;
     lines[at] = serial;
@@ -114,7 +115,8 @@ pub fn take_records(
     lines: &mut [u32],
 ) -> Taken
     requires { ⌜ 3 * recordsIn (now bytes) ≤ length (now lines) ⌝ }
-    ensures { λ r. ⌜ TakenIs territory (now (bytes .entry)) expected (lentIn first long owners rules) (now (lines .entry)) r (lentOut first long owners rules) (now (lines .exit)) ⌝ }
+    ensures { λ r. ⌜ TakenIs territory (now (bytes .entry)) expected (lentIn first long owners rules) (now (lines .entry)) r
+        (lentOut first long owners rules) (now (lines .exit)) ⌝ }
 {
     let mut next = expected;
     let mut count = 0;
