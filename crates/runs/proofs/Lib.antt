@@ -2,3 +2,4 @@
 mod Matches
 mod Same
 mod Places
+mod Covered

@@ -26,11 +26,11 @@ key-le : (p q : Prefix) → p .length ≤ 32 → q .length ≤ 32 → keyOf p �
 key-le p q h k l = omega arith
 
 -- a fact of each route, by the index of its word
-each : {ws : List ℕ} {n : ℕ} (P : Route → Type 0) → Listed ws n → ((k : ℕ) → k < n → P (routeOf (getD ws k 0))) → (r : Route) → Mem r (routes ws) → P r
+pub each : {ws : List ℕ} {n : ℕ} (P : Route → Type 0) → Listed ws n → ((k : ℕ) → k < n → P (routeOf (getD ws k 0))) → (r : Route) → Mem r (routes ws) → P r
 each {ws} {n} P s f r m = let i = routes-index ws m in subst P (i .2) (f (i .0) (omega (arith, i .1, s .count)))
 
 -- a later word has no lower key
-keys-rise : {ws : List ℕ} {n : ℕ} → Listed ws n → (j k : ℕ) → j ≤ k → k < n → key (prefixOf (getD ws j 0)) ≤ key (prefixOf (getD ws k 0))
+pub keys-rise : {ws : List ℕ} {n : ℕ} → Listed ws n → (j k : ℕ) → j ≤ k → k < n → key (prefixOf (getD ws j 0)) ≤ key (prefixOf (getD ws k 0))
 keys-rise {ws} s j k le h =
     let count = s .count in
     by-lt j k (λ lt. le-of-lt (routes-rise ws (s .order) j k lt (omega arith))) (λ ge.
@@ -61,7 +61,7 @@ module _ {ws : List ℕ} {n i : ℕ} (a l : ℕ) (s : Listed ws n) (short : l �
 
 module _ {ws : List ℕ} {n i : ℕ} (a : ℕ) (s : Listed ws n) (q : CountUpTo ws n 32 a i) where
   -- each word that is counted starts at a or before
-  counted : (k : ℕ) → k < i → prefixOf (getD ws k 0) .address ≤ a
+  pub counted : (k : ℕ) → k < i → prefixOf (getD ws k 0) .address ≤ a
   counted k h = omega (arith, q .below k h, word-key (getD ws k 0))
 
   pub next-none : i ≡ n → a < 2 ^ 32 → NextIs (routes ws) a (2 ^ 32)

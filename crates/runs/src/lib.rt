@@ -7,19 +7,24 @@ ghost use Rattle.prefix.specs.Prefixes.{top, span};
 ghost use Rattle.prefix.specs.Routes.{IsRoute};
 ghost use Rattle.rules.specs.Words.{routeOf};
 ghost use Rattle.rules.specs.Rules.{routes, Listed};
-ghost use Rattle.runs.specs.Run.{RunIs};
+ghost use Rattle.runs.specs.Kept.{RunIs};
 ghost use Rattle.runs.specs.Steps.{CountUpTo, settled, SharedIs, ClimbIs, NextIs, LowerIs, MatchRunIs};
 use cells::cell::Cell;
 use prefix::Prefix;
 use rules::word::Rule;
 
+pub mod onward;
+
 // How many addresses there are.
 const ADDRESSES: u64 = 0x1_0000_0000;
 
-// The cell of the longest match of an address, and an end past the address up to which every address has the same.
+// The cell of the longest match of an address, and an end past the address up to which every address has the same. For what is past the
+// end: where the prefix of the match ends, and how many of the live words are up to the address.
 pub struct Run {
     pub cell: u32,
     pub end: u64,
+    pub until: u64,
+    pub at: usize,
 }
 
 // How many of the live words are up to the prefix of this length around the address.
@@ -115,21 +120,24 @@ fn past(address: u32, length: u32) -> u64
 }
 
 // The run of a match: to the end of its prefix, and no further than `limit`.
-fn run_of(word: u64, limit: u64) -> Run
+fn run_of(word: u64, limit: u64, at: usize) -> Run
     requires { ⌜ IsRoute (routeOf word) ⌝ }
-    ensures { λ r. ⌜ MatchRunIs word limit (r .cell) (r .end) ⌝ }
+    ensures { λ r. ⌜ MatchRunIs word limit at (r .cell) (r .end) (r .until) (r .at) ⌝ }
 {
     let length = Rule::length(word);
+    let until = past(Rule::address(word), length);
     Run {
         cell: Cell::pack(Rule::hop(word), length),
-        end: lower(limit, past(Rule::address(word), length)),
+        end: lower(limit, until),
+        until,
+        at,
     }
 }
 
 // The longest match of an address among the first `live` words, and its run.
 pub fn longest(rules: &[u64], live: usize, address: u32) -> Run
     requires { ⌜ Listed (now rules) live ⌝ }
-    ensures { λ r. ⌜ RunIs (routes (now (rules .entry))) address (r .cell) (r .end) ⌝ }
+    ensures { λ r. ⌜ RunIs (now (rules .entry)) live address (r .cell) (r .end) (r .until) (r .at) ⌝ }
 {
     let first = up_to(rules, live, address, 32);
     let limit = next(rules, live, address, first);
@@ -138,7 +146,9 @@ pub fn longest(rules: &[u64], live: usize, address: u32) -> Run
         return Run {
             cell: Cell::EMPTY,
             end: limit,
+            until: ADDRESSES,
+            at: first,
         };
     }
-    run_of(rules[i - 1], limit)
+    run_of(rules[i - 1], limit, first)
 }

@@ -1,0 +1,79 @@
+-- `runs::onward::skip_ended` meets its contract. The loop's invariant: the words before index i started, and those from the first on do not
+-- contain the address. The measure is the number of words that are left. Assumes nothing.
+use mathlib.Core.Path.{_≡_, refl}
+use Prim.Native.Nat.{_-_}
+use native.Mathlib.Omega.{arith}
+use borrow.Author.Needs.{needs}
+use Rattle.ground.proofs.Tests.{denies}
+use Rattle.rules.proofs.Indices.{listed-within, listed-route}
+use Rattle.runs.proofs.Covered.{Skipping, agrees?, skip-start, skip-met, skip-more, skip-later, skip-done}
+use Rattle.runs.proofs.onward.skip_ended.Statement.{statement}
+use Rattle.runs.proofs.onward.skip_ended.Tie as tie
+
+abbrev Inv-loop : tie.InvT-loop
+Inv-loop rules live from address i₀ i = Skipping rules live address from i
+
+abbrev μ-loop : tie.MeasureT-loop
+μ-loop rules live from address i₀ i = live - i
+
+loop-holds : tie.Need-loop-holds Inv-loop μ-loop
+loop-holds c = skip-start (c .before .pre .1)
+
+mul-word : tie.Need-mul-word Inv-loop μ-loop
+mul-word c = omega (arith, listed-within (c .before .before .before .pre .0))
+
+shared-slice-read-word : tie.Need-shared-slice-read-word Inv-loop μ-loop
+shared-slice-read-word c = omega (arith, listed-within (c .before .before .before .before .pre .0))
+
+address-requires : tie.Need-address-requires Inv-loop μ-loop
+address-requires c κs = tt
+
+returns : tie.Need-returns Inv-loop μ-loop
+returns c =
+    skip-later (c .before .before .before .before .before .before .pre .0) (c .before .before .before .before .loop .inv) (omega arith) (omega (arith, c .before .address .ensures))
+
+length-requires : tie.Need-length-requires Inv-loop μ-loop
+length-requires c κs = tt
+
+agree-requires : tie.Need-agree-requires Inv-loop μ-loop
+agree-requires c κs = omega (arith, listed-route (c .before .before .before .before .before .before .before .pre .0) (c .before .before .before .before .before .loop .i) (omega arith) .formed .short, c .length .ensures)
+
+returns-2 : tie.Need-returns-2 Inv-loop μ-loop
+returns-2 c = skip-met
+
+add-i : tie.Need-add-i Inv-loop μ-loop
+add-i c = omega (arith, listed-within (c .before .before .before .before .before .before .before .before .before .pre .0))
+
+loop-less : tie.Need-loop-less Inv-loop μ-loop
+loop-less c = omega arith
+
+loop-again : tie.Need-loop-again Inv-loop μ-loop
+loop-again c =
+    let s = c .before .before .before .before .before .before .before .before .before in
+    let i = c .before .before .before .before .before .before .before .loop in
+    let start = c .before .before .before .before .address in
+    let bits = c .before .before .length in
+    skip-more (s .pre .0) (i .inv) (omega arith) (omega (arith, start .ensures))
+    (denies (agrees? _ (s .args .address) (start .result) (bits .result) (start .ensures) (bits .ensures) (c .before .agree .ensures)) (c .if2 .left))
+
+returns-3 : tie.Need-returns-3 Inv-loop μ-loop
+returns-3 c = skip-done (c .before .before .before .pre .0) (c .before .loop .inv) (λ k low high. absurd (omega arith))
+
+pub skip-ended-spec : {M : Type 1} → statement M
+skip-ended-spec =
+    tie.close
+    (tie.spec
+    Inv-loop
+    μ-loop
+    loop-holds
+    mul-word
+    shared-slice-read-word
+    address-requires
+    returns
+    length-requires
+    agree-requires
+    returns-2
+    add-i
+    loop-less
+    loop-again
+    returns-3)
