@@ -1,56 +1,54 @@
 -- A segment closed; and that what is repainted over the prefix before does not show, so that a withdrawal that closes need not repaint.
 -- Assumes nothing.
-use mathlib.Core.Path.{_≡_, sym, ap, _∙_}
+use mathlib.Core.Path.{_≡_, refl, sym, ap, _∙_}
 use mathlib.Core.List.{List}
-use Prim.Native.Nat.{ℕ, _+_, _*_, _/_, _≤_, _<_}
+use Prim.Native.Nat.{ℕ, _+_, _*_, _/_}
 use native.Mathlib.Omega.{arith}
 use lib.ListN.{length, getD, set}
 use Rattle.ground.specs.Lists.{differs}
 use Rattle.ground.proofs.Tests.{eqb?}
-use Rattle.ground.proofs.Lists.{is-where, getD-off, differing-one}
+use Rattle.ground.proofs.Lists.{is-where, getD-off, length-where, differing-one}
 use Rattle.prefix.specs.declared.Prefix.{Prefix}
-use Rattle.cells.specs.Cells.{empty}
-use Rattle.prefix.specs.Geometry.{blockOf}
-use Rattle.tables.specs.Cellwise.{firstChanged, longChanged}
+use Rattle.prefix.specs.Geometry.{blockSize, blockOf}
+use Rattle.cells.specs.Cells.{empty, segmentOf}
+use Rattle.cells.specs.Memory.{Tables}
+use Rattle.tables.specs.Cellwise.{repainted}
+use Rattle.tables.specs.Changes.{segmentFilled, closedAt, left, leaves}
+use Rattle.tables.specs.inner.Ready.{segmentAt, Closable}
 use Rattle.tables.specs.inner.Ranges.{RunChanged}
-use Rattle.tables.specs.Segments.{segmentFilled, Closable, segmentAt, Closed}
+use Rattle.tables.proofs.Changes.{tablesOf, tables-are, left-is}
 use Rattle.tables.proofs.Segments.{openIn?}
 use Rattle.tables.proofs.Filling.{filled-whole, length-filled, getD-filled, getD-other}
-use Rattle.tables.proofs.Repaints.{length-longs, block-lent, owns, firsts-stay, in-segment}
+use Rattle.tables.proofs.Repaints.{block-lent, firsts-stay, in-segment}
 
-module _ {t p : Prefix} {first long owners : List ℕ} (h : Closable t p first long owners) where
-  abbrev b : ℕ
-  b = blockOf t (p .address)
-
+module _ {t p : Prefix} {T : Tables} (h : Closable t p T) {b : ℕ} (at-block : b ≡ blockOf t (p .address)) where
   abbrev s : ℕ
-  s = segmentAt t p first
+  s = segmentAt T b
 
-  pub segment-lent : s < length owners
-  segment-lent = owns (h .ready) (h .longer) (h .opened) .lent
+  -- u is the segment
+  pub closed : (cell : ℕ) {u from to value word r d : ℕ} {long : List ℕ} → u ≡ s → from ≡ u * blockSize → to ≡ from + blockSize → value ≡ empty → word ≡ 0
+      → RunChanged (λ i x. value) from to (T .long) long r → d ≡ differs (getD (T .first) b 0) cell
+      → left (r + d) (tablesOf (set (T .first) b cell) long (set (T .owners) u word)) ≡ leaves (closedAt b s cell) T
+  unfolding closedAt
+  closed cell {u} {word = word} eu low high ev ew c ed =
+      left-is (closedAt b s cell) T
+      (tables-are refl (rw ev at (filled-whole s (omega arith) high c)) (ap (λ (i : ℕ). set (T .owners) i word) eu ∙ ap (set (T .owners) s) ew))
+      (omega (arith, c .count, differing-one (T .first) b cell (block-lent (h .ready) at-block)))
 
-  pub segment-inside : s * 256 + 256 ≤ length long
-  segment-inside = omega (arith, segment-lent, h .ready .sized .longs)
+  -- a repaint leaves the pointer, and changes no cell outside the block's segment, which is filled all over
+  pub segment-stays : (f : ℕ → ℕ → ℕ) → segmentAt (repainted t p f T) b ≡ s
+  segment-stays f = ap (λ (l : List ℕ). segmentOf (getD l b 0)) (sym (firsts-stay h at-block f))
 
-  -- k is the block, and u its segment
-  pub closed : {k u at to value word cell r d : ℕ} {long′ : List ℕ} → k ≡ b → u ≡ s → at ≡ u * 256 → to ≡ at + 256 → value ≡ empty → word ≡ 0
-      → RunChanged (λ i x. value) at to long long′ r → d ≡ differs (getD first k 0) cell
-      → Closed t p cell first long owners (set first k cell) long′ (set owners u word) (r + d)
-  closed {k} {u} {word = word} {cell} ek eu ea et ev ew c ed = record {
-    firsts = ap (λ (i : ℕ). set first i cell) ek;
-    longs = rw ev at (filled-whole s (omega arith) et c);
-    owner-words = ap (λ (i : ℕ). set owners i word) eu ∙ ap (set owners s) ew;
-    count = let k-lent : k < length first = omega (arith, block-lent (h .ready)) in omega (arith, c .count, differing-one first k cell k-lent);
-  }
+  same-longs : (f : ℕ → ℕ → ℕ) → length (repainted t p f T .long) ≡ length (T .long)
+  unfolding repainted
+  same-longs f = length-where _ _ (T .long)
 
-  -- the first cell is a pointer, which no repaint changes
-  pub set-after : (f : ℕ → ℕ → ℕ) (cell : ℕ) → set (firstChanged t p f first) b cell ≡ set first b cell
-  set-after f cell = ap (λ (l : List ℕ). set l b cell) (sym (firsts-stay (h .ready) (h .longer) (h .opened) f))
-
-  -- a repaint changes no cell outside the block's segment, and that is filled all over
-  pub filled-after : (f : ℕ → ℕ → ℕ) (value : ℕ) → segmentFilled s value (longChanged t p f first owners long) ≡ segmentFilled s value long
-  unfolding segmentFilled longChanged
-  filled-after f value =
-      is-where (λ i. eqb? (i / 256) s) (λ i x. value) long (segmentFilled s value (longChanged t p f first owners long))
-      (length-filled s value _ ∙ length-longs t p f first owners long)
-      (λ i l q. getD-filled s value _ i (omega (arith, length-longs t p f first owners long)) q)
-      (λ i l n. getD-other s value _ i n ∙ getD-off _ _ long i (openIn? t p first owners i) (λ o. n (in-segment (h .ready) (h .longer) (h .opened) i o .0)))
+  pub closed-after : (f : ℕ → ℕ → ℕ) (cell : ℕ) → closedAt b s cell (repainted t p f T) ≡ closedAt b s cell T
+  unfolding closedAt segmentFilled repainted
+  closed-after f cell =
+      tables-are (ap (λ (l : List ℕ). set l b cell) (sym (firsts-stay h at-block f)))
+      (is-where (λ i. eqb? (i / blockSize) s) (λ i x. empty) (T .long) (segmentFilled s empty (repainted t p f T .long))
+      (length-filled s empty (repainted t p f T .long) ∙ same-longs f)
+      (λ i l q. getD-filled s empty _ i (omega (arith, same-longs f)) q)
+      (λ i l n. getD-other s empty _ i n ∙ getD-off _ _ (T .long) i (openIn? t p T i) (λ o. n (in-segment h at-block i o .0))))
+      refl

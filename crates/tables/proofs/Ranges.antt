@@ -1,4 +1,4 @@
--- A run of cells, changed by a function g of index and content: no cell, one, one run after another, and the loop that goes through it.
+-- A run of cells, changed by a function g of index and content: one run after another, and the loop that goes through it.
 -- Assumes nothing.
 use mathlib.Core.Path.{_≡_, refl, sym, ap, _∙_}
 use mathlib.Core.Logic.{inl, inr}
@@ -15,19 +15,6 @@ use Rattle.tables.specs.inner.Ranges.{inRange, Within, RunChanged}
 pub inRange? : (from to i : ℕ) → Decides ((from ≤ i) × (i < to)) (inRange from to i)
 unfolding inRange
 inRange? from to i = and? (leb? from i) (ltb? i to)
-
-pub run-none : (g : ℕ → ℕ → ℕ) (cells : List ℕ) (from : ℕ) → RunChanged g from from cells cells 0
-run-none g cells from = record {
-  is = where-none (inRange? from from) g cells (λ i r. omega arith);
-  count = sym (differing-refl cells);
-}
-
-pub run-one : (g : ℕ → ℕ → ℕ) (cells : List ℕ) (i next d : ℕ) → i < length cells → next ≡ g i (getD cells i 0) → d ≡ differs (getD cells i 0) next
-    → RunChanged g i (i + 1) cells (set cells i next) d
-run-one g cells i next d h e ed = record {
-  is = where-one (inRange? i (i + 1)) g cells i next e (omega arith) (λ j r. omega arith);
-  count = ed ∙ sym (differing-one cells i next h);
-}
 
 module _ {g : ℕ → ℕ → ℕ} {from mid : ℕ} {xs ys : List ℕ} {r : ℕ} (p : RunChanged g from mid xs ys r) where
   pub run-length : length ys ≡ length xs
@@ -66,7 +53,7 @@ pub start : {g : ℕ → ℕ → ℕ} {from to : ℕ} {cells : List ℕ} → Wit
 start {g} {from} {cells = cells} w = record {
   low = omega arith;
   high = w .ordered;
-  done = run-none g cells from;
+  done = record { is = where-none (inRange? from from) g cells (λ i r. omega arith); count = sym (differing-refl cells) };
   same = refl;
   few = omega arith;
 }
@@ -75,13 +62,19 @@ start {g} {from} {cells = cells} w = record {
 pub turn : {g : ℕ → ℕ → ℕ} {from to : ℕ} {cells₀ cells : List ℕ} {changed i next d : ℕ} → Within from to cells₀ → i < to
     → next ≡ g i (getD cells i 0) → d ≡ differs (getD cells i 0) next → Reached g from to cells₀ cells changed i
     → Reached g from to cells₀ (set cells i next) (changed + d) (i + 1)
-turn {g} {cells = cells} {i = i} {next} {d} w more e ed inv = record {
-  low = omega arith;
-  high = omega arith;
-  done = run-then (inv .done) (inv .low) (omega arith) (run-one g cells i next d (omega (arith, w .inside, inv .same)) e ed);
-  same = length-set cells i next ∙ inv .same;
-  few = omega (arith, differs-small _ _ _ ed);
-}
+turn {g} {cells = cells} {i = i} {next} {d} w more e ed inv =
+    let one : RunChanged g i (i + 1) cells (set cells i next) d =
+    record {
+      is = where-one (inRange? i (i + 1)) g cells i next e (omega arith) (λ j r. omega arith);
+      count = ed ∙ sym (differing-one cells i next (omega (arith, w .inside, inv .same)));
+    } in
+    record {
+      low = omega arith;
+      high = omega arith;
+      done = run-then (inv .done) (inv .low) (omega arith) one;
+      same = length-set cells i next ∙ inv .same;
+      few = omega (arith, differs-small _ _ _ ed);
+    }
 
 pub finish : {g : ℕ → ℕ → ℕ} {from to : ℕ} {cells₀ cells : List ℕ} {changed i : ℕ} → to ≤ i → Reached g from to cells₀ cells changed i
     → RunChanged g from to cells₀ cells changed

@@ -1,5 +1,4 @@
 -- What the functions that change the tables require, and what their loops do.
 pub mod Ready
 pub mod Ranges
-pub mod Repaint
 pub mod Unpaint

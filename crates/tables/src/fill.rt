@@ -1,13 +1,20 @@
 // Filling a segment: it is opened with the block's former cell and painted in the same pass, so that each cell is counted once; it is closed
 // with 0.
+ghost use mathlib.Core.Path.{_≡_};
 ghost use Prim.Native.Nat.{_+_};
-ghost use Rattle.tables.specs.Cellwise.{paintCell};
+ghost use lib.ListN.{getD};
+ghost use Rattle.prefix.specs.Geometry.{blockSize, blockOf};
+ghost use Rattle.cells.specs.Cells.{segmentOf};
+ghost use Rattle.cells.specs.Memory.{tables, tablesIn, tablesOut};
+ghost use Rattle.tables.specs.Cellwise.{paintCell, repainted};
+ghost use Rattle.tables.specs.Changes.{openedAt, closedAt, left, leaves};
+ghost use Rattle.tables.specs.inner.Ready.{Openable, Closable};
 ghost use Rattle.tables.specs.inner.Ranges.{Within, InSegment, RunChanged, twoValues};
-ghost use Rattle.tables.specs.Segments.{Openable, OpenedAndChanged, Closable, Closed};
 use crate::paint;
 use crate::place;
 use cells::cell::Cell;
 use prefix::Prefix;
+use prefix::geometry::Block;
 
 // Fills the cells from..to with a value, and returns how many differ.
 fn fill_run(cells: &mut [u32], from: usize, to: usize, value: u32) -> u32
@@ -35,11 +42,12 @@ fn fill_segment(
     around: u32,
 ) -> u32
     requires { ⌜ InSegment at from to (now cells) ⌝ }
-    ensures { λ r. ⌜ RunChanged (λ i x. twoValues from to inside around i) at (at + 256) (now (cells .entry)) (now (cells .exit)) r ⌝ }
+    ensures { λ r. ⌜ RunChanged (λ i x. twoValues from to inside around i) at (at + blockSize)
+        (now (cells .entry)) (now (cells .exit)) r ⌝ }
 {
     let before = fill_run(cells, at, from, around);
     let within = fill_run(cells, from, to, inside);
-    let after = fill_run(cells, to, at + 256, around);
+    let after = fill_run(cells, to, at + Block::CELLS, around);
     before + within + after
 }
 
@@ -51,19 +59,22 @@ pub fn open_and_paint(
     owners: &mut [u32],
     territory: Prefix,
     prefix: Prefix,
+    block: usize,
     segment: usize,
     new: u32,
 ) -> u32
-    requires { ⌜ Openable territory prefix (now first) (now long) (now owners) segment ⌝ }
-    ensures { λ r. ⌜ OpenedAndChanged territory prefix segment (λ a. paintCell (prefix .length) new) (now (first .entry)) (now (long .entry)) (now (owners .entry)) (now (first .exit)) (now (long .exit)) (now (owners .exit)) r ⌝ }
+    requires { ⌜ Openable territory prefix segment (tables first long owners) ⌝ }
+    requires { ⌜ block ≡ blockOf territory (prefix .address) ⌝ }
+    ensures { λ r. ⌜ left r (tablesOut first long owners)
+        ≡ leaves (λ x. repainted territory prefix (λ a. paintCell (prefix .length) new) (openedAt block segment x))
+        (tablesIn first long owners) ⌝ }
 {
-    let block = place::block_of(territory, prefix);
     let cell = first[block];
     let painted = paint::paint_cell(cell, new, prefix.length);
-    let pointer = Cell::POINTER + segment as u32;
-    let range = place::run_of(pointer, prefix);
-    let changed = fill_segment(long, segment * 256, range.from, range.to, painted, cell);
-    first[block] = pointer;
+    let at = place::segment_start(segment);
+    let range = place::run_of(segment, prefix);
+    let changed = fill_segment(long, at, range.from, range.to, painted, cell);
+    first[block] = Cell::point_to(segment);
     owners[segment] = block as u32 + 1;
     changed + 1
 }
@@ -75,16 +86,18 @@ pub fn close(
     owners: &mut [u32],
     territory: Prefix,
     prefix: Prefix,
+    block: usize,
     cell: u32,
 ) -> u32
-    requires { ⌜ Closable territory prefix (now first) (now long) (now owners) ⌝ }
-    ensures { λ r. ⌜ Closed territory prefix cell (now (first .entry)) (now (long .entry)) (now (owners .entry)) (now (first .exit)) (now (long .exit)) (now (owners .exit)) r ⌝ }
+    requires { ⌜ Closable territory prefix (tables first long owners) ⌝ }
+    requires { ⌜ block ≡ blockOf territory (prefix .address) ⌝ }
+    ensures { λ r. ⌜ left r (tablesOut first long owners)
+        ≡ leaves (closedAt block (segmentOf (getD (now (first .entry)) block 0)) cell) (tablesIn first long owners) ⌝ }
 {
-    let block = place::block_of(territory, prefix);
     let pointer = first[block];
-    let segment = place::segment_of(pointer);
-    let at = segment * 256;
-    let changed = fill_run(long, at, at + 256, Cell::EMPTY);
+    let segment = Cell::segment(pointer);
+    let range = place::segment_cells(pointer);
+    let changed = fill_run(long, range.from, range.to, Cell::EMPTY);
     owners[segment] = 0;
     first[block] = cell;
     changed + paint::differ(pointer, cell)

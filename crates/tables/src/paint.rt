@@ -1,13 +1,18 @@
 // Painting: announce and re-home put a new cell in the place of each cell of a prefix that is 0 or at most as long as the prefix.
 ghost use mathlib.Core.Path.{_≡_};
-ghost use Prim.Native.Nat.{_+_, _<_, _≤_};
+ghost use Prim.Native.Nat.{_+_};
 ghost use Rattle.ground.specs.Lists.{differs};
-ghost use Rattle.tables.specs.Cellwise.{paintCell};
+ghost use Rattle.prefix.specs.Geometry.{touched};
+ghost use Rattle.cells.specs.Memory.{tables, tablesIn, tablesOut};
+ghost use Rattle.tables.specs.Cellwise.{paintCell, repainted};
+ghost use Rattle.tables.specs.Changes.{left, leaves};
+ghost use Rattle.tables.specs.inner.Ready.{Repaintable};
 ghost use Rattle.tables.specs.inner.Ranges.{Within, RunChanged, BlocksReady, BlocksChanged};
-ghost use Rattle.tables.specs.inner.Repaint.{Repaintable, Repainted};
 use crate::place;
 use cells::cell::Cell;
 use prefix::Prefix;
+use prefix::geometry::Block;
+use prefix::geometry::Blocks;
 
 // What becomes of one cell under a new cell of a prefix of this length.
 pub fn paint_cell(old: u32, new: u32, length: u32) -> u32
@@ -46,22 +51,24 @@ fn paint_run(cells: &mut [u32], from: usize, to: usize, new: u32, length: u32) -
     changed
 }
 
-// Paints the segment that the block's first cell points to, or else that cell. The owner words are there for the contract.
+// Paints the segment that the block's first cell points to, or else that cell.
 fn paint_block(
     first: &mut [u32],
     long: &mut [u32],
     owners: &[u32],
+    territory: Prefix,
     block: usize,
     new: u32,
     length: u32,
 ) -> u32
-    requires { ⌜ BlocksReady (now first) (now long) (now owners) block (block + 1) ⌝ }
-    ensures { λ r. ⌜ BlocksChanged (λ k. paintCell length new) (λ i. paintCell length new) (now (first .entry)) (now (long .entry)) (now (owners .entry)) block (block + 1) (now (first .exit)) (now (long .exit)) r ⌝ }
+    requires { ⌜ BlocksReady territory block (block + 1) (tables first long owners) ⌝ }
+    ensures { λ r. ⌜ BlocksChanged territory (λ a. paintCell length new) block (block + 1) (tablesIn first long owners)
+        (now (first .exit)) (now (long .exit)) r ⌝ }
 {
     let cell = first[block];
-    if Cell::POINTER <= cell {
-        let at = place::segment_start(cell);
-        return paint_run(long, at, at + 256, new, length);
+    if Cell::is_pointer(cell) {
+        let range = place::segment_cells(cell);
+        return paint_run(long, range.from, range.to, new, length);
     }
     let next = paint_cell(cell, new, length);
     first[block] = next;
@@ -73,18 +80,20 @@ fn paint_blocks(
     first: &mut [u32],
     long: &mut [u32],
     owners: &[u32],
+    territory: Prefix,
     from: usize,
     to: usize,
     new: u32,
     length: u32,
 ) -> u32
-    requires { ⌜ (from ≤ to) × BlocksReady (now first) (now long) (now owners) from to ⌝ }
-    ensures { λ r. ⌜ BlocksChanged (λ k. paintCell length new) (λ i. paintCell length new) (now (first .entry)) (now (long .entry)) (now (owners .entry)) from to (now (first .exit)) (now (long .exit)) r ⌝ }
+    requires { ⌜ BlocksReady territory from to (tables first long owners) ⌝ }
+    ensures { λ r. ⌜ BlocksChanged territory (λ a. paintCell length new) from to (tablesIn first long owners)
+        (now (first .exit)) (now (long .exit)) r ⌝ }
 {
     let mut changed: u32 = 0;
     let mut block = from;
     while block < to {
-        changed += paint_block(first, long, owners, block, new, length);
+        changed += paint_block(first, long, owners, territory, block, new, length);
         block += 1;
     }
     changed
@@ -97,17 +106,20 @@ pub fn paint(
     owners: &[u32],
     territory: Prefix,
     prefix: Prefix,
+    blocks: Blocks,
     new: u32,
 ) -> u32
-    requires { ⌜ Repaintable territory prefix (now first) (now long) (now owners) ⌝ }
-    ensures { λ r. ⌜ Repainted territory prefix (λ a. paintCell (prefix .length) new) (now (first .entry)) (now (long .entry)) (now (owners .entry)) (now (first .exit)) (now (long .exit)) r ⌝ }
+    requires { ⌜ Repaintable territory prefix (tables first long owners) ⌝ }
+    requires { ⌜ blocks ≡ touched territory prefix ⌝ }
+    ensures { λ r. ⌜ left r (tablesOut first long owners)
+        ≡ leaves (repainted territory prefix (λ a. paintCell (prefix .length) new)) (tablesIn first long owners) ⌝ }
 {
     let length = prefix.length;
-    let block = place::block_of(territory, prefix);
-    if length <= 24 {
-        let to = block + prefix::geometry::blocks_of(length);
-        return paint_blocks(first, long, owners, block, to, new, length);
+    let block = blocks.from;
+    if length <= Block::WIDTH {
+        let to = block + blocks.count;
+        return paint_blocks(first, long, owners, territory, block, to, new, length);
     }
-    let range = place::run_of(first[block], prefix);
+    let range = place::run_of(Cell::segment(first[block]), prefix);
     paint_run(long, range.from, range.to, new, length)
 }

@@ -1,44 +1,13 @@
-// Where the cells of a prefix stand: its first block, and for a prefix longer than 24 its run in the block's segment.
+// Where cells stand in the long table: a segment's, and there those of a prefix longer than 24.
 ghost use mathlib.Core.Path.{_≡_};
 ghost use Prim.Native.Nat.{_*_, _<_, _≤_};
 ghost use Rattle.prefix.specs.Prefixes.{span};
+ghost use Rattle.prefix.specs.Geometry.{width, blockSize};
 ghost use Rattle.cells.specs.Cells.{pointerBit, segmentOf};
-ghost use Rattle.prefix.specs.Geometry.{blockOf};
-ghost use Rattle.tables.specs.inner.Ranges.{PrefixRun};
+ghost use Rattle.tables.specs.inner.Ranges.{SegmentRun, PrefixRun};
 use cells::cell::Cell;
 use prefix::Prefix;
-
-// The number of the block that the prefix starts in, within the territory.
-pub fn block_of(territory: Prefix, prefix: Prefix) -> usize
-    requires { ⌜ territory .address ≤ prefix .address ⌝ }
-    ensures { λ r. ⌜ r ≡ blockOf territory (prefix .address) ⌝ }
-{
-    ((prefix.address - territory.address) / 256) as usize
-}
-
-// The number of the segment that a pointer points to.
-pub fn segment_of(pointer: u32) -> usize
-    requires { ⌜ pointerBit ≤ pointer ⌝ }
-    ensures { λ r. ⌜ r ≡ segmentOf pointer ⌝ }
-{
-    (pointer - Cell::POINTER) as usize
-}
-
-// The index of that segment's first cell.
-pub fn segment_start(pointer: u32) -> usize
-    requires { ⌜ pointerBit ≤ pointer ⌝ }
-    ensures { λ r. ⌜ r ≡ segmentOf pointer * 256 ⌝ }
-{
-    segment_of(pointer) * 256
-}
-
-// How many addresses a prefix has that lies inside a block.
-fn addresses_of(length: u32) -> usize
-    requires { ⌜ (24 < length) × (length ≤ 32) ⌝ }
-    ensures { λ r. ⌜ r ≡ span length ⌝ }
-{
-    1usize << ((32 - length) as usize)
-}
+use prefix::geometry::Block;
 
 // The cells from..to.
 pub struct Range {
@@ -46,13 +15,39 @@ pub struct Range {
     pub to: usize,
 }
 
-// The cells of a prefix longer than 24 in the segment that a pointer points to.
-pub fn run_of(pointer: u32, prefix: Prefix) -> Range
-    requires { ⌜ pointerBit ≤ pointer ⌝ }
-    requires { ⌜ (24 < prefix .length) × (prefix .length ≤ 32) ⌝ }
-    ensures { λ r. ⌜ PrefixRun prefix pointer (r .from) (r .to) ⌝ }
+// The index of a segment's first cell.
+pub fn segment_start(segment: usize) -> usize
+    requires { ⌜ segment < pointerBit ⌝ }
+    ensures { λ r. ⌜ r ≡ segment * blockSize ⌝ }
 {
-    let from = segment_start(pointer) + (prefix.address % 256) as usize;
+    segment * Block::CELLS
+}
+
+// The cells of the segment that a pointer points to.
+pub fn segment_cells(pointer: u32) -> Range
+    requires { ⌜ pointerBit ≤ pointer ⌝ }
+    ensures { λ r. ⌜ SegmentRun (segmentOf pointer) (r .from) (r .to) ⌝ }
+{
+    let from = segment_start(Cell::segment(pointer));
+    let to = from + Block::CELLS;
+    Range { from, to }
+}
+
+// How many addresses a prefix has that lies inside a block.
+fn addresses_of(length: u32) -> usize
+    requires { ⌜ (width < length) × (length ≤ 32) ⌝ }
+    ensures { λ r. ⌜ r ≡ span length ⌝ }
+{
+    1usize << ((32 - length) as usize)
+}
+
+// The cells of a prefix longer than 24 in a segment.
+pub fn run_of(segment: usize, prefix: Prefix) -> Range
+    requires { ⌜ segment < pointerBit ⌝ }
+    requires { ⌜ (width < prefix .length) × (prefix .length ≤ 32) ⌝ }
+    ensures { λ r. ⌜ PrefixRun prefix segment (r .from) (r .to) ⌝ }
+{
+    let from = segment_start(segment) + (prefix.address % Block::SIZE) as usize;
     let to = from + addresses_of(prefix.length);
     Range { from, to }
 }

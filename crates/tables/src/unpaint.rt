@@ -1,16 +1,22 @@
 // Withdrawal's repaint: each cell of a prefix with exactly its length takes the longest match of the rules that are left. That match is kept
 // with the run of addresses that share it, so that the rules are asked again only past the run's end.
-ghost use Prim.Native.Nat.{_+_, _-_, _*_, _^_, _≤_};
-ghost use Rattle.prefix.specs.Geometry.{blockStart};
+ghost use mathlib.Core.Path.{_≡_};
+ghost use Prim.Native.Nat.{_+_, _-_, _^_, _≤_};
+ghost use Rattle.prefix.specs.Geometry.{blockStart, touched};
+ghost use Rattle.cells.specs.Memory.{tables, tablesIn, tablesOut};
 ghost use Rattle.rules.specs.Rules.{routes, Listed};
-ghost use Rattle.tables.specs.Cellwise.{unpaintCell};
+ghost use Rattle.tables.specs.Cellwise.{unpaintCell, repainted};
+ghost use Rattle.tables.specs.Changes.{left, leaves};
+ghost use Rattle.tables.specs.inner.Ready.{Repaintable};
 ghost use Rattle.tables.specs.inner.Ranges.{Within, BlocksReady};
-ghost use Rattle.tables.specs.inner.Repaint.{Repaintable, Repainted};
 ghost use Rattle.tables.specs.inner.Unpaint.{Asking, StepIs, RunUnpainted, BlocksUnpainted};
 use crate::paint;
 use crate::place;
 use cells::cell::Cell;
 use prefix::Prefix;
+use prefix::geometry::Block;
+use prefix::geometry::Blocks;
+use prefix::geometry::block_start;
 use runs::Run;
 
 // What becomes of a cell, and the run that then holds.
@@ -64,7 +70,8 @@ fn unpaint_run(
     requires { ⌜ Within from to (now cells) ⌝ }
     requires { ⌜ start + (to - from) ≤ 2 ^ 32 ⌝ }
     requires { ⌜ Asking (now rules) live start (run .cell) (run .end) ⌝ }
-    ensures { λ r. ⌜ RunUnpainted length (routes (now (rules .entry))) start from to (now (cells .entry)) (now (cells .exit)) (r .changed) (r .run .cell) (r .run .end) ⌝ }
+    ensures { λ r. ⌜ RunUnpainted length (routes (now (rules .entry))) start from to (now (cells .entry)) (now (cells .exit))
+        (r .changed) (r .run .cell) (r .run .end) ⌝ }
 {
     let mut changed: u32 = 0;
     let mut kept = run;
@@ -81,7 +88,7 @@ fn unpaint_run(
     Tally { changed, run: kept }
 }
 
-// Repaints the segment that the block's first cell points to, or else that cell. The owner words are there for the contract.
+// Repaints the segment that the block's first cell points to, or else that cell.
 fn unpaint_block(
     first: &mut [u32],
     long: &mut [u32],
@@ -93,16 +100,16 @@ fn unpaint_block(
     length: u32,
     run: Run,
 ) -> Tally
-    requires { ⌜ BlocksReady (now first) (now long) (now owners) block (block + 1) ⌝ }
-    requires { ⌜ blockStart territory (block + 1) ≤ 2 ^ 32 ⌝ }
+    requires { ⌜ BlocksReady territory block (block + 1) (tables first long owners) ⌝ }
     requires { ⌜ Asking (now rules) live (blockStart territory block) (run .cell) (run .end) ⌝ }
-    ensures { λ r. ⌜ BlocksUnpainted territory length (routes (now (rules .entry))) (now (first .entry)) (now (long .entry)) (now (owners .entry)) block (block + 1) (now (first .exit)) (now (long .exit)) (r .changed) (r .run .cell) (r .run .end) ⌝ }
+    ensures { λ r. ⌜ BlocksUnpainted territory length (routes (now (rules .entry))) block (block + 1) (tablesIn first long owners)
+        (now (first .exit)) (now (long .exit)) (r .changed) (r .run .cell) (r .run .end) ⌝ }
 {
-    let start = territory.address + 256 * block as u32;
+    let start = block_start(territory, block);
     let cell = first[block];
-    if Cell::POINTER <= cell {
-        let at = place::segment_start(cell);
-        return unpaint_run(long, at, at + 256, start, rules, live, length, run);
+    if Cell::is_pointer(cell) {
+        let range = place::segment_cells(cell);
+        return unpaint_run(long, range.from, range.to, start, rules, live, length, run);
     }
     let step = unpainted(cell, start, length, rules, live, run);
     let next = step.cell;
@@ -127,10 +134,10 @@ fn unpaint_blocks(
     length: u32,
     run: Run,
 ) -> Tally
-    requires { ⌜ (from ≤ to) × BlocksReady (now first) (now long) (now owners) from to ⌝ }
-    requires { ⌜ blockStart territory to ≤ 2 ^ 32 ⌝ }
+    requires { ⌜ BlocksReady territory from to (tables first long owners) ⌝ }
     requires { ⌜ Asking (now rules) live (blockStart territory from) (run .cell) (run .end) ⌝ }
-    ensures { λ r. ⌜ BlocksUnpainted territory length (routes (now (rules .entry))) (now (first .entry)) (now (long .entry)) (now (owners .entry)) from to (now (first .exit)) (now (long .exit)) (r .changed) (r .run .cell) (r .run .end) ⌝ }
+    ensures { λ r. ⌜ BlocksUnpainted territory length (routes (now (rules .entry))) from to (tablesIn first long owners)
+        (now (first .exit)) (now (long .exit)) (r .changed) (r .run .cell) (r .run .end) ⌝ }
 {
     let mut changed: u32 = 0;
     let mut kept = run;
@@ -147,8 +154,8 @@ fn unpaint_blocks(
             length,
             kept,
         );
-        changed += tally.changed;
         kept = tally.run;
+        changed += tally.changed;
         block += 1;
     }
     Tally { changed, run: kept }
@@ -164,17 +171,21 @@ pub fn unpaint(
     live: usize,
     territory: Prefix,
     prefix: Prefix,
+    blocks: Blocks,
 ) -> u32
-    requires { ⌜ Repaintable territory prefix (now first) (now long) (now owners) ⌝ }
+    requires { ⌜ Repaintable territory prefix (tables first long owners) ⌝ }
+    requires { ⌜ blocks ≡ touched territory prefix ⌝ }
     requires { ⌜ Listed (now rules) live ⌝ }
-    ensures { λ r. ⌜ Repainted territory prefix (unpaintCell (prefix .length) (routes (now (rules .entry)))) (now (first .entry)) (now (long .entry)) (now (owners .entry)) (now (first .exit)) (now (long .exit)) r ⌝ }
+    ensures { λ r. ⌜ left r (tablesOut first long owners)
+        ≡ leaves (repainted territory prefix (unpaintCell (prefix .length) (routes (now (rules .entry)))))
+        (tablesIn first long owners) ⌝ }
 {
     let length = prefix.length;
-    let block = place::block_of(territory, prefix);
+    let block = blocks.from;
     // The first run is asked for here: with two places that ask, the search stays a call, and the step is small enough to stand in the loops.
     let run = runs::longest(rules, live, prefix.address);
-    if length <= 24 {
-        let to = block + prefix::geometry::blocks_of(length);
+    if length <= Block::WIDTH {
+        let to = block + blocks.count;
         let tally = unpaint_blocks(
             first,
             long,
@@ -189,7 +200,7 @@ pub fn unpaint(
         );
         return tally.changed;
     }
-    let range = place::run_of(first[block], prefix);
+    let range = place::run_of(Cell::segment(first[block]), prefix);
     let tally = unpaint_run(
         long,
         range.from,

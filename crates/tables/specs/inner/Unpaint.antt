@@ -6,8 +6,9 @@ use Rattle.prefix.specs.declared.Prefix.{Prefix}
 use Rattle.prefix.specs.Geometry.{blockStart}
 use Rattle.prefix.specs.Routes.{Route, best}
 use Rattle.cells.specs.Cells.{cellOf}
+use Rattle.cells.specs.Memory.{Tables}
 use Rattle.rules.specs.Rules.{routes, Listed}
-use Rattle.tables.specs.Cellwise.{unpaintCell, cellAddress}
+use Rattle.tables.specs.Cellwise.{unpaintCell}
 use Rattle.tables.specs.inner.Ranges.{RunChanged, BlocksChanged}
 
 -- every address from a on and before the end has the longest match whose cell is found
@@ -30,8 +31,6 @@ pub record RunUnpainted (l : ℕ) (rs : List Route) (a from to : ℕ) (cells aft
   pub kept : Kept rs (a + (to - from)) found end
 
 -- the blocks from..to are changed, and the run holds past them
-pub record BlocksUnpainted (t : Prefix) (l : ℕ) (rs : List Route) (first long owners : List ℕ) (from to : ℕ)
-    (first′ long′ : List ℕ) (r found end : ℕ) : Type 0 where
-  pub blocks : BlocksChanged (λ k. unpaintCell l rs (blockStart t k)) (λ i. unpaintCell l rs (cellAddress t owners i))
-      first long owners from to first′ long′ r
+pub record BlocksUnpainted (t : Prefix) (l : ℕ) (rs : List Route) (from to : ℕ) (tables : Tables) (first long : List ℕ) (r found end : ℕ) : Type 0 where
+  pub blocks : BlocksChanged t (unpaintCell l rs) from to tables first long r
   pub kept : Kept rs (blockStart t to) found end

@@ -1,7 +1,7 @@
 -- `fill::fill_segment` meets its contract: three runs, one after another, are the segment. Assumes nothing.
 use native.Mathlib.Omega.{arith}
 use borrow.Author.Needs.{needs}
-use Rattle.tables.proofs.Ranges.{run-small, run-length}
+use Rattle.tables.proofs.Ranges.{run-small}
 use Rattle.tables.proofs.Filling.{filled-in-three}
 use Rattle.tables.proofs.fill.fill_segment.Statement.{statement}
 use Rattle.tables.proofs.fill.fill_segment.Tie as tie
@@ -28,26 +28,19 @@ add-fill-run c = search needs
 fill-run-requires-3 : tie.Need-fill-run-requires-3
 fill-run-requires-3 c κs = search needs
 
-add-result : tie.Need-add-result
-add-result c = omega (arith, run-small (run c .fill-run .ensures), run-small (second c .fill-run2 .ensures), run-length (run c .fill-run .ensures))
-
-add-result-2 : tie.Need-add-result-2
-add-result-2 c =
-    omega (
-      arith,
-      run-small (run c .fill-run .ensures),
-      run-small (second c .fill-run2 .ensures),
-      run-small (third c .fill-run3 .ensures),
-      run-length (run c .fill-run .ensures),
-      run-length (second c .fill-run2 .ensures),
-    )
-
-same-length : tie.Need-same-length
-same-length c = search needs
-
 returns : tie.Need-returns
 returns c =
     filled-in-three (run c .before .before .before .pre) (run c .fill-run .ensures) (second c .fill-run2 .ensures) (third c .fill-run3 .ensures)
+
+-- no more cells differ than there are
+add-result : tie.Need-add-result
+add-result c = omega (arith, run-small (returns c))
+
+add-result-2 : tie.Need-add-result-2
+add-result-2 c = omega (arith, run-small (returns c))
+
+same-length : tie.Need-same-length
+same-length c = search needs
 
 pub fill-segment-spec : {M : Type 1} → statement M
 fill-segment-spec =

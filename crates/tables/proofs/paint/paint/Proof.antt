@@ -1,37 +1,36 @@
 -- `paint::paint` meets its contract. A prefix of length up to 24 is a run of blocks; a longer one is a run of cells in its block's segment.
 -- Assumes nothing.
 use mathlib.Core.Path.{_≡_, ap}
-use Prim.Native.Nat.{ℕ, _+_}
+use Prim.Native.Nat.{_+_}
 use native.Mathlib.Omega.{arith}
-use lib.ListN.{getD}
-use denote.Ref.{now}
 use borrow.Author.Needs.{needs}
+use Rattle.prefix.specs.declared.geometry.Blocks.{Blocks}
 use Rattle.prefix.specs.Geometry.{blockOf}
+use Rattle.cells.specs.Memory.{tables}
+use Rattle.cells.proofs.Lending.{few-firsts}
+use Rattle.tables.specs.inner.Ready.{Closable}
 use Rattle.tables.specs.inner.Ranges.{BlocksReady}
-use Rattle.tables.proofs.Repaints.{past-base, block-lent, blocks-ready, blocks-repainted, run-within, run-repainted}
+use Rattle.tables.proofs.Repaints.{block-lent, blocks-ready, blocks-repainted, closable, points, owns, run-within, run-repainted}
 use Rattle.tables.proofs.paint.paint.Statement.{statement}
 use Rattle.tables.proofs.paint.paint.Tie as tie
 
-abbrev entry : tie.After-block-of → tie.Start
-entry c = c .before .before .before .before
-
-block-of-requires : tie.Need-block-of-requires
-block-of-requires c κs = past-base (c .before .before .before .pre .ready)
+from : (s : tie.Start) → s .args .blocks .from ≡ blockOf (s .args .territory) (s .args .prefix .address)
+from s = ap (λ (x : Blocks). x .from) (s .pre .1)
 
 -- ---- a prefix of length up to 24
 
-blocks-of-requires : tie.Need-blocks-of-requires
-blocks-of-requires c κs = search needs
+abbrev entry : tie.Then1 → tie.Start
+entry c = c .before .before .before .before
 
-blocks : (c : tie.After-blocks-of) → let a = entry (c .before .before) .args in let from = c .before .before .block-of .result in
-    BlocksReady (now (a .first)) (now (a .long)) (now (a .owners)) from (from + c .blocks-of .result)
-blocks c = blocks-ready (entry (c .before .before) .pre .ready) (c .before .if1 .taken) (c .before .before .block-of .ensures) (c .blocks-of .ensures)
+ready : (c : tie.Then1) → let a = entry c .args in
+    BlocksReady (a .territory) (a .blocks .from) (a .blocks .from + a .blocks .count) (tables (a .first) (a .long) (a .owners))
+ready c = let s = entry c in blocks-ready (s .pre .0 .ready) (c .if1 .taken) (s .pre .1)
 
 add-to : tie.Need-add-to
-add-to c = omega (arith, blocks c .within, blocks c .small)
+add-to c = omega (arith, ready (c .before) .within, few-firsts (ready (c .before) .sized))
 
 paint-blocks-requires : tie.Need-paint-blocks-requires
-paint-blocks-requires c κs = (omega arith, blocks (c .before .before))
+paint-blocks-requires c κs = ready (c .before .before .before)
 
 same-length : tie.Need-same-length
 same-length c = search needs
@@ -42,35 +41,38 @@ same-length-2 c = search needs
 returns : tie.Need-returns
 returns c =
     let at-paint = c .before .before .before .before in
-    let at-blocks = at-paint .before .before .before in
-    let at-block = at-blocks .before .before in
-    blocks-repainted (entry at-block .pre .ready) (at-blocks .before .if1 .taken) (at-block .block-of .ensures) (at-blocks .blocks-of .ensures) _
-    (at-paint .paint-blocks .ensures)
+    let k = at-paint .before .before .before .before in
+    let s = entry k in
+    blocks-repainted (s .pre .0 .ready) (k .if1 .taken) (s .pre .1) _ (at-paint .paint-blocks .ensures)
 
 -- ---- a longer prefix
 
-mul-run-of : tie.Need-mul-run-of
-mul-run-of c = search needs
+abbrev start : tie.Else1 → tie.Start
+start c = c .before .before .before .before
 
-slice-read-run-of : tie.Need-slice-read-run-of
-slice-read-run-of c = omega (arith, block-lent (entry (c .before .before) .pre .ready))
+open-block : (c : tie.Else1) → let a = start c .args in Closable (a .territory) (a .prefix) (tables (a .first) (a .long) (a .owners))
+open-block c = closable (start c .pre .0) (c .if1 .left)
 
--- the cell that the code reads is that of the prefix's block
-own : (c : tie.After-block-of) → let a = entry c .args in
-    getD (now (a .first)) (c .block-of .result) 0 ≡ getD (now (a .first)) (blockOf (a .territory) (a .prefix .address)) 0
-own c = ap (λ (b : ℕ). getD (now (entry c .args .first)) b 0) (c .block-of .ensures)
+mul-segment : tie.Need-mul-segment
+mul-segment c = let s = start c in omega (arith, block-lent (s .pre .0 .ready) (from s), few-firsts (s .pre .0 .ready .sized))
+
+slice-read-segment : tie.Need-slice-read-segment
+slice-read-segment c = let s = start (c .before) in omega (arith, block-lent (s .pre .0 .ready) (from s))
+
+segment-requires : tie.Need-segment-requires
+segment-requires c κs = omega (arith, points (open-block (c .before)) (from (start (c .before))))
 
 run-of-requires : tie.Need-run-of-requires
 run-of-requires c κs =
-    let at-block = c .before .before in
-    let pre = entry at-block .pre in
-    (omega (arith, own at-block, pre .opened (c .before .if1 .left)), (omega arith, pre .ready .formed .short))
+    let k = c .before .before in
+    let lent = owns (open-block k) (from (start k)) .lent in
+    (omega (arith, c .segment .ensures, open-block k .ready .sized .few), (omega (arith, k .if1 .left), open-block k .ready .formed .short))
 
 paint-run-requires : tie.Need-paint-run-requires
 paint-run-requires c κs =
-    let at-else = c .before .before .before in
-    let pre = entry (at-else .before) .pre in
-    run-within (pre .ready) (at-else .if1 .left) (pre .opened (at-else .if1 .left)) (own (at-else .before)) (c .before .run-of .ensures)
+    let at-segment = c .before .before in
+    let k = at-segment .before .before in
+    run-within (open-block k) (from (start k)) (at-segment .segment .ensures) (c .before .run-of .ensures)
 
 same-length-3 : tie.Need-same-length-3
 same-length-3 c = search needs
@@ -78,24 +80,22 @@ same-length-3 c = search needs
 returns-2 : tie.Need-returns-2
 returns-2 c =
     let at-run = c .before .before in
-    let at-else = at-run .before .before .before .before in
-    let pre = entry (at-else .before) .pre in
-    run-repainted (pre .ready) (at-else .if1 .left) (pre .opened (at-else .if1 .left)) (own (at-else .before)) (at-run .before .before .run-of .ensures) _
-    (at-run .paint-run .ensures)
+    let at-segment = at-run .before .before .before in
+    let k = at-segment .before .before in
+    run-repainted (open-block k) (from (start k)) (at-segment .segment .ensures) (at-run .before .before .run-of .ensures) _ (at-run .paint-run .ensures)
 
 pub paint-spec : {M : Type 1} → statement M
 paint-spec =
     tie.close
     (tie.spec
-    block-of-requires
-    blocks-of-requires
     add-to
     paint-blocks-requires
     same-length
     same-length-2
     returns
-    mul-run-of
-    slice-read-run-of
+    mul-segment
+    slice-read-segment
+    segment-requires
     run-of-requires
     paint-run-requires
     same-length-3

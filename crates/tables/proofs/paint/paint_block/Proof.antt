@@ -1,20 +1,21 @@
 -- `paint::paint_block` meets its contract. Where the block's first cell is a pointer, its segment is painted and nothing else is; where it is
 -- not, that cell is. Assumes nothing.
-use Prim.Native.Nat.{_+_, _≤_}
+use mathlib.Core.Path.{sym, _∙_}
 use native.Mathlib.Omega.{arith}
-use lib.ListN.{length}
-use denote.Ref.{now}
+use borrow.Author.Tests.{leb-true, leb-false}
 use borrow.Author.Needs.{needs}
-use Rattle.tables.proofs.Blocks.{block-direct, block-points, points-to, owns, segment-inside}
+use Rattle.cells.specs.Memory.{tables}
+use Rattle.tables.specs.inner.Ready.{segmentAt, Owns}
+use Rattle.tables.proofs.Blocks.{block-direct, block-points, owns-one, segment-within}
 use Rattle.tables.proofs.paint.paint_block.Statement.{statement}
 use Rattle.tables.proofs.paint.paint_block.Tie as tie
 
 -- the function's entry, from where the cell is a pointer
 abbrev entry : tie.Then1 → tie.Start
-entry c = c .before .before .before .before .before
+entry c = c .before .before .before .before .before .before
 
-inside : (c : tie.After-segment-start) → c .segment-start .result + 256 ≤ length (now (entry (c .before) .args .long))
-inside c = segment-inside (entry (c .before) .pre) (c .before .if1 .taken) (c .segment-start .ensures)
+owns : (c : tie.Then1) → let a = entry c .args in let T = tables (a .first) (a .long) (a .owners) in Owns T (a .block) (segmentAt T (a .block))
+owns c = owns-one (entry c .pre) (leb-true _ _ (sym (c .before .is-pointer .ensures) ∙ c .if1 .taken))
 
 mul-cell : tie.Need-mul-cell
 mul-cell c = search needs
@@ -22,14 +23,17 @@ mul-cell c = search needs
 slice-read-cell : tie.Need-slice-read-cell
 slice-read-cell c = search needs
 
-segment-start-requires : tie.Need-segment-start-requires
-segment-start-requires c κs = search needs
+is-pointer-requires : tie.Need-is-pointer-requires
+is-pointer-requires c κs = search needs
 
-add-paint-run : tie.Need-add-paint-run
-add-paint-run c = omega (arith, inside (c .before))
+segment-cells-requires : tie.Need-segment-cells-requires
+segment-cells-requires c κs = omega (arith, owns c .points)
 
 paint-run-requires : tie.Need-paint-run-requires
-paint-run-requires c κs = record { ordered = omega arith; inside = omega (arith, inside (c .before)); few = omega arith }
+paint-run-requires c κs =
+    let k = c .before .before in
+    let run = c .before .segment-cells .ensures in
+    segment-within (entry k .pre .sized) (owns k) (omega (arith, run .low)) (omega (arith, run .high))
 
 same-length : tie.Need-same-length
 same-length c = search needs
@@ -37,10 +41,9 @@ same-length c = search needs
 returns : tie.Need-returns
 returns c =
     let at-run = c .before .before in
-    let at-start = at-run .before .before in
-    let ready = entry (at-start .before) .pre in
-    let pointer = at-start .before .if1 .taken in
-    block-points _ _ (points-to ready pointer) (owns ready pointer) (at-start .segment-start .ensures) (omega arith) (at-run .paint-run .ensures)
+    let at-cells = at-run .before .before in
+    let run = at-cells .segment-cells .ensures in
+    block-points _ _ (owns (at-cells .before)) (omega (arith, run .low)) (omega (arith, run .high)) (at-run .paint-run .ensures)
 
 paint-cell-requires : tie.Need-paint-cell-requires
 paint-cell-requires c κs = search needs
@@ -58,7 +61,10 @@ same-length-2 : tie.Need-same-length-2
 same-length-2 c = search needs
 
 returns-2 : tie.Need-returns-2
-returns-2 c = block-direct _ _ (omega arith) (c .before .before .if1 .left) (c .before .paint-cell .ensures) (c .differ .ensures)
+returns-2 c =
+    let at-else = c .before .before in
+    block-direct _ _ (omega arith) (leb-false _ _ (sym (at-else .before .is-pointer .ensures) ∙ at-else .if1 .left)) (c .before .paint-cell .ensures)
+    (c .differ .ensures)
 
 pub paint-block-spec : {M : Type 1} → statement M
 paint-block-spec =
@@ -66,8 +72,8 @@ paint-block-spec =
     (tie.spec
     mul-cell
     slice-read-cell
-    segment-start-requires
-    add-paint-run
+    is-pointer-requires
+    segment-cells-requires
     paint-run-requires
     same-length
     returns

@@ -6,16 +6,17 @@ use native.Mathlib.Omega.{arith}
 use borrow.Author.Needs.{needs}
 use Rattle.tables.specs.Cellwise.{paintCell}
 use Rattle.tables.specs.inner.Ranges.{BlocksChanged}
+use Rattle.tables.proofs.Changes.{tablesOf}
 use Rattle.tables.proofs.Blocks.{blocks-none, few-blocks, blocks-then, ready-then, same-firsts, same-longs}
 use Rattle.tables.proofs.paint.paint_blocks.Statement.{statement}
 use Rattle.tables.proofs.paint.paint_blocks.Tie as tie
 
 abbrev Inv-loop : tie.InvT-loop
-Inv-loop first₀ long₀ owners from to new length changed₀ block₀ first long changed block =
-    (from ≤ block) × (block ≤ to) × BlocksChanged (λ k. paintCell length new) (λ i. paintCell length new) first₀ long₀ owners from block first long changed
+Inv-loop first₀ long₀ owners territory from to new length changed₀ block₀ first long changed block =
+    (from ≤ block) × (block ≤ to) × BlocksChanged territory (λ a. paintCell length new) from block (tablesOf first₀ long₀ owners) first long changed
 
 abbrev μ-loop : tie.MeasureT-loop
-μ-loop first₀ long₀ owners from to new length changed₀ block₀ first long changed block = to - block
+μ-loop first₀ long₀ owners territory from to new length changed₀ block₀ first long changed block = to - block
 
 -- within a turn: the loop's head, and the function's entry
 abbrev head : tie.After-slice-known4 Inv-loop μ-loop → tie.At-loop Inv-loop μ-loop
@@ -25,12 +26,12 @@ abbrev entry : tie.At-loop Inv-loop μ-loop → tie.Start Inv-loop μ-loop
 entry c = c .before .before .before .before
 
 loop-holds : tie.Need-loop-holds Inv-loop μ-loop
-loop-holds c = (omega arith, omega arith, blocks-none _ _ _ _ _ _)
+loop-holds c = (omega arith, omega arith, blocks-none _ _ _ _)
 
 paint-block-requires : tie.Need-paint-block-requires Inv-loop μ-loop
 paint-block-requires c κs =
     let at-loop = c .before .before .before in
-    ready-then (at-loop .loop .inv .2) (at-loop .loop .inv .0) (omega arith) (entry at-loop .pre .1)
+    ready-then (at-loop .loop .inv .2) (at-loop .loop .inv .0) (omega arith) (omega arith) (entry at-loop .pre)
 
 loop-again : tie.Need-loop-again Inv-loop μ-loop
 loop-again c = (
@@ -41,7 +42,7 @@ loop-again c = (
 
 -- the sum is the count of the next turn's invariant
 add-changed : tie.Need-add-changed Inv-loop μ-loop
-add-changed c = record { fits = few-blocks (loop-again c .2) (entry (head c) .pre .1) }
+add-changed c = record { fits = few-blocks (loop-again c .2) (entry (head c) .pre) }
 
 add-block : tie.Need-add-block Inv-loop μ-loop
 add-block c = search needs

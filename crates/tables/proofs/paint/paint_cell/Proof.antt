@@ -4,7 +4,7 @@ use mathlib.Core.Path.{sym}
 use mathlib.Core.Logic.{inl, inr, ⊎-elim}
 use native.Mathlib.Omega.{arith}
 use borrow.Author.Needs.{needs}
-use Rattle.tables.proofs.Painted.{paint-on, paint-off}
+use Rattle.tables.proofs.Cellwise.{paint-on, paint-off}
 use Rattle.tables.proofs.paint.paint_cell.Statement.{statement}
 use Rattle.tables.proofs.paint.paint_cell.Tie as tie
 

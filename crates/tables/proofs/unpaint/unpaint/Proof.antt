@@ -1,59 +1,50 @@
 -- `unpaint::unpaint` meets its contract. A prefix of length up to 24 is a run of blocks; a longer one is a run of cells in its block's
 -- segment. The run kept at first is that of the prefix's own address. Assumes nothing.
 use mathlib.Core.Path.{_≡_, ap}
-use Prim.Native.Nat.{ℕ, _+_, _^_, _<_}
+use Prim.Native.Nat.{_+_, _^_, _<_}
 use native.Mathlib.Omega.{arith}
-use lib.ListN.{getD}
 use denote.Ref.{now}
 use borrow.Author.Needs.{needs}
+use Rattle.prefix.specs.declared.geometry.Blocks.{Blocks}
 use Rattle.prefix.specs.Geometry.{blockOf}
+use Rattle.prefix.proofs.Prefixes.{ends-within}
+use Rattle.prefix.proofs.Spans.{starts}
+use Rattle.cells.specs.Memory.{tables}
+use Rattle.cells.proofs.Lending.{few-firsts}
 use Rattle.rules.specs.Rules.{routes}
 use Rattle.tables.specs.Cellwise.{unpaintCell}
+use Rattle.tables.specs.inner.Ready.{Closable}
 use Rattle.tables.specs.inner.Ranges.{BlocksReady}
-use Rattle.tables.proofs.Repaints.{past-base, block-lent, blocks-ready, blocks-repainted, run-within, run-repainted}
-use Rattle.tables.proofs.Addresses.{blocks-start, blocks-end, run-end, own-run}
-use Rattle.tables.proofs.Unpainted.{kept-later, kept-run}
+use Rattle.tables.proofs.Repaints.{block-lent, blocks-ready, blocks-repainted, closable, points, owns, run-within, run-counted, run-repainted}
+use Rattle.tables.proofs.Cellwise.{kept-later, kept-run}
 use Rattle.tables.proofs.unpaint.unpaint.Statement.{statement}
 use Rattle.tables.proofs.unpaint.unpaint.Tie as tie
 
 abbrev entry : tie.After-longest → tie.Start
-entry c = c .before .before .before .before .before .before
+entry c = c .before .before .before .before .before
 
-small : (c : tie.Start) → c .args .prefix .address < 2 ^ 32
-small c = omega arith
-
-block-of-requires : tie.Need-block-of-requires
-block-of-requires c κs = past-base (c .before .before .before .before .pre .0 .ready)
+from : (s : tie.Start) → s .args .blocks .from ≡ blockOf (s .args .territory) (s .args .prefix .address)
+from s = ap (λ (x : Blocks). x .from) (s .pre .1 .0)
 
 longest-requires : tie.Need-longest-requires
 longest-requires c κs = search needs
 
 -- ---- a prefix of length up to 24
 
-blocks-of-requires : tie.Need-blocks-of-requires
-blocks-of-requires c κs = search needs
-
-blocks : (c : tie.After-blocks-of) → let a = entry (c .before .before) .args in let from = c .before .before .before .block-of .result in
-    BlocksReady (now (a .first)) (now (a .long)) (now (a .owners)) from (from + c .blocks-of .result)
-blocks c =
-    blocks-ready (entry (c .before .before) .pre .0 .ready) (c .before .if1 .taken) (c .before .before .before .block-of .ensures) (c .blocks-of .ensures)
+ready : (c : tie.Then1) → let a = entry (c .before) .args in
+    BlocksReady (a .territory) (a .blocks .from) (a .blocks .from + a .blocks .count) (tables (a .first) (a .long) (a .owners))
+ready c = let s = entry (c .before) in blocks-ready (s .pre .0 .ready) (c .if1 .taken) (s .pre .1 .0)
 
 add-to : tie.Need-add-to
-add-to c = omega (arith, blocks c .within, blocks c .small)
+add-to c = omega (arith, ready (c .before) .within, few-firsts (ready (c .before) .sized))
 
 unpaint-blocks-requires : tie.Need-unpaint-blocks-requires
 unpaint-blocks-requires c κs =
-    let at-blocks = c .before .before in
-    let at-longest = at-blocks .before .before in
-    let s = entry at-longest in
-    let short = at-blocks .before .if1 .taken in
-    let block = at-longest .before .block-of .ensures in (
-      (omega arith, blocks at-blocks),
-      (
-        blocks-end (s .pre .0 .ready) short block (at-blocks .blocks-of .ensures) (small s),
-        record { listed = s .pre .1; kept = kept-later (blocks-start (s .pre .0 .ready) short block) (kept-run (at-longest .longest .ensures)) },
-      ),
-    )
+    let k = c .before .before .before in
+    let s = entry (k .before) in
+    let pre = s .pre .0 .ready in
+    let start = starts (pre .sized .territory) (pre .formed) (pre .inside) (k .if1 .taken) in
+    (ready k, record { listed = s .pre .1 .1; kept = kept-later (omega (arith, from s)) (kept-run (k .before .longest .ensures)) })
 
 same-length : tie.Need-same-length
 same-length c = search needs
@@ -64,37 +55,38 @@ same-length-2 c = search needs
 returns : tie.Need-returns
 returns c =
     let at-unpaint = c .before .before .before .before in
-    let at-blocks = at-unpaint .before .before .before in
-    let at-longest = at-blocks .before .before in
-    blocks-repainted (entry at-longest .pre .0 .ready) (at-blocks .before .if1 .taken) (at-longest .before .block-of .ensures) (at-blocks .blocks-of .ensures) _
-    (at-unpaint .unpaint-blocks .ensures .blocks)
+    let k = at-unpaint .before .before .before .before in
+    let s = entry (k .before) in
+    blocks-repainted (s .pre .0 .ready) (k .if1 .taken) (s .pre .1 .0) _ (at-unpaint .unpaint-blocks .ensures .blocks)
 
 -- ---- a longer prefix
 
-mul-run-of : tie.Need-mul-run-of
-mul-run-of c = search needs
+open-block : (c : tie.Else1) → let a = entry (c .before) .args in Closable (a .territory) (a .prefix) (tables (a .first) (a .long) (a .owners))
+open-block c = closable (entry (c .before) .pre .0) (c .if1 .left)
 
-slice-read-run-of : tie.Need-slice-read-run-of
-slice-read-run-of c = omega (arith, block-lent (entry (c .before .before) .pre .0 .ready))
+mul-segment : tie.Need-mul-segment
+mul-segment c = let s = entry (c .before) in omega (arith, block-lent (s .pre .0 .ready) (from s), few-firsts (s .pre .0 .ready .sized))
 
--- the cell that the code reads is that of the prefix's block
-own : (c : tie.After-longest) → let a = entry c .args in
-    getD (now (a .first)) (c .before .block-of .result) 0 ≡ getD (now (a .first)) (blockOf (a .territory) (a .prefix .address)) 0
-own c = ap (λ (b : ℕ). getD (now (entry c .args .first)) b 0) (c .before .block-of .ensures)
+slice-read-segment : tie.Need-slice-read-segment
+slice-read-segment c = let s = entry (c .before .before) in omega (arith, block-lent (s .pre .0 .ready) (from s))
+
+segment-requires : tie.Need-segment-requires
+segment-requires c κs = omega (arith, points (open-block (c .before)) (from (entry (c .before .before))))
 
 run-of-requires : tie.Need-run-of-requires
 run-of-requires c κs =
-    let at-longest = c .before .before in
-    let pre = entry at-longest .pre .0 in
-    (omega (arith, own at-longest, pre .opened (c .before .if1 .left)), (omega arith, pre .ready .formed .short))
+    let k = c .before .before in
+    let lent = owns (open-block k) (from (entry (k .before))) .lent in
+    (omega (arith, c .segment .ensures, open-block k .ready .sized .few), (omega (arith, k .if1 .left), open-block k .ready .formed .short))
 
 unpaint-run-requires : tie.Need-unpaint-run-requires
 unpaint-run-requires c κs =
-    let at-else = c .before .before .before in
-    let s = entry (at-else .before) in
-    let long = at-else .if1 .left in (
-      run-within (s .pre .0 .ready) long (s .pre .0 .opened long) (own (at-else .before)) (c .before .run-of .ensures),
-      (run-end (s .pre .0 .ready) (c .before .run-of .ensures) (small s), record { listed = s .pre .1; kept = kept-run (at-else .before .longest .ensures) }),
+    let at-segment = c .before .before in
+    let k = at-segment .before .before in
+    let s = entry (k .before) in
+    let small : s .args .prefix .address < 2 ^ 32 = omega arith in (
+      run-within (open-block k) (from s) (at-segment .segment .ensures) (c .before .run-of .ensures),
+      (omega (arith, c .before .run-of .ensures .high, ends-within (s .pre .0 .ready .formed) small), record { listed = s .pre .1 .1; kept = kept-run (k .before .longest .ensures) }),
     )
 
 same-length-3 : tie.Need-same-length-3
@@ -103,29 +95,27 @@ same-length-3 c = search needs
 returns-2 : tie.Need-returns-2
 returns-2 c =
     let at-run = c .before .before in
-    let at-else = at-run .before .before .before .before in
-    let a = entry (at-else .before) .args in
-    let pre = entry (at-else .before) .pre .0 in
-    let long = at-else .if1 .left in
+    let at-segment = at-run .before .before .before in
+    let k = at-segment .before .before in
+    let s = entry (k .before) in
     let run = at-run .before .before .run-of .ensures in
-    let f = unpaintCell (a .prefix .length) (routes (now (a .rules))) in
-    run-repainted (pre .ready) long (pre .opened long) (own (at-else .before)) run f
-    (own-run (pre .ready) long (pre .opened long) (own (at-else .before)) run f (at-run .unpaint-run .ensures .run))
+    let f = unpaintCell (s .args .prefix .length) (routes (now (s .args .rules))) in
+    run-repainted (open-block k) (from s) (at-segment .segment .ensures) run f
+    (run-counted (open-block k) (from s) (at-segment .segment .ensures) run f (at-run .unpaint-run .ensures .run))
 
 pub unpaint-spec : {M : Type 1} → statement M
 unpaint-spec =
     tie.close
     (tie.spec
-    block-of-requires
     longest-requires
-    blocks-of-requires
     add-to
     unpaint-blocks-requires
     same-length
     same-length-2
     returns
-    mul-run-of
-    slice-read-run-of
+    mul-segment
+    slice-read-segment
+    segment-requires
     run-of-requires
     unpaint-run-requires
     same-length-3

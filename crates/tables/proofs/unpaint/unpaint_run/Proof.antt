@@ -8,7 +8,7 @@ use Rattle.rules.specs.Rules.{routes}
 use Rattle.tables.specs.Cellwise.{unpaintCell}
 use Rattle.tables.specs.inner.Unpaint.{Kept}
 use Rattle.tables.proofs.Ranges.{Reached, start, turn, finish}
-use Rattle.tables.proofs.Unpainted.{kept-later}
+use Rattle.tables.proofs.Cellwise.{kept-later}
 use Rattle.tables.proofs.unpaint.unpaint_run.Statement.{statement}
 use Rattle.tables.proofs.unpaint.unpaint_run.Tie as tie
 

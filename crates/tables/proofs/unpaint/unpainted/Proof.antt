@@ -9,7 +9,7 @@ use Rattle.prefix.specs.Routes.{best}
 use Rattle.cells.specs.Cells.{cellOf}
 use Rattle.rules.specs.Rules.{routes}
 use Rattle.tables.specs.Cellwise.{unpaintCell}
-use Rattle.tables.proofs.Unpainted.{unpaint-on, unpaint-off, kept-run}
+use Rattle.tables.proofs.Cellwise.{unpaint-on, unpaint-off, kept-run}
 use Rattle.tables.proofs.unpaint.unpainted.Statement.{statement}
 use Rattle.tables.proofs.unpaint.unpainted.Tie as tie
 
