@@ -19,10 +19,14 @@ use Rattle.rules.specs.Words.{prefixOf, routeOf, keyOf}
 use Rattle.rules.specs.Rules.{routes, Listed}
 use Rattle.rules.proofs.Words.{word-key, key-less}
 use Rattle.rules.proofs.Indices.{listed-route, index-routes}
+use Rattle.runs.specs.declared.Run.{Run}
 use Rattle.runs.specs.Kept.{Clear, Started, Covers, Kept, RunIs}
 use Rattle.runs.specs.Steps.{around, CountUpTo, NextIs, LowerIs, SkippedIs}
 use Rattle.runs.proofs.Places.{each, keys-rise, counted}
 use Rattle.runs.proofs.Same.{same-none, same-longest}
+
+abbrev pub runOf : (cell end until at : ℕ) → Run
+runOf cell end until at = record { cell = cell; end = end; until = until; at = at }
 
 -- ---- the words that started
 
@@ -57,7 +61,7 @@ module _ {ws : List ℕ} {n i : ℕ} (a : ℕ) (s : Listed ws n) (q : CountUpTo 
   module _ {limit : ℕ} (next : NextIs (routes ws) a limit) where
     -- the run of a cell that is that of a, and of each later address up to a limit that no word after them contains
     pub run-by : (cell end until : ℕ) → a < until → LowerIs limit until end
-        → ((b : ℕ) → a ≤ b → b < until → Clear ws n i b → cell ≡ cellOf (best (routes ws) b)) → RunIs ws n a cell end until i
+        → ((b : ℕ) → a ≤ b → b < until → Clear ws n i b → cell ≡ cellOf (best (routes ws) b)) → RunIs ws n a (runOf cell end until i)
     run-by cell end until up ends covers =
         let same : (b : ℕ) → a ≤ b → b < end → cell ≡ cellOf (best (routes ws) b) =
         λ b from h. covers b from (lt-of-lt-of-le h (ends .second)) (clear-before next b (lt-of-lt-of-le h (ends .first))) in
@@ -69,15 +73,15 @@ module _ {ws : List ℕ} {n i : ℕ} (a : ℕ) (s : Listed ws n) (q : CountUpTo 
           kept = record { same = same; covers = record { counted = count-started; covers = covers } };
         }
 
-    pub run-none : a < 2 ^ 32 → ((r : Route) → Mem r (routes ws) → ¬ Contains (r .prefix) a) → RunIs ws n a empty limit (2 ^ 32) i
+    pub run-none : a < 2 ^ 32 → ((r : Route) → Mem r (routes ws) → ¬ Contains (r .prefix) a) → RunIs ws n a (runOf empty limit (2 ^ 32) i)
     run-none fits none =
         run-by empty limit (2 ^ 32) fits (record { first = le-refl limit; second = next .within; least = λ c l m. l }) (λ b from h clear.
         sym (ap cellOf (same-none (s .all) b from (started-by b clear) none ∙ best-none (routes ws) a .1 none)))
 
     pub run-found : {r : Route} (cell end until at : ℕ) → IsLongest (routes ws) a r → cell ≡ pack (r .hop) (r .prefix .length)
-        → until ≡ r .prefix .address + span (r .prefix .length) → LowerIs limit until end → at ≡ i → RunIs ws n a cell end until at
+        → until ≡ r .prefix .address + span (r .prefix .length) → LowerIs limit until end → at ≡ i → RunIs ws n a (runOf cell end until at)
     run-found {r} cell end until at l e u ends same =
-        subst (RunIs ws n a cell end until) (sym same)
+        subst (λ (x : ℕ). RunIs ws n a (runOf cell end until x)) (sym same)
         (run-by cell end until
         (subst (λ (x : ℕ). a < x) (sym u) (in-range (s .all r (l .live) .formed) (l .contains) .1)) ends (λ b from h clear.
         e ∙ sym (ap cellOf (same-longest (s .all) b from (started-by b clear) l (subst (λ (x : ℕ). b < x) u h) ∙ is-best (s .all) (s .order) (found r refl l)))))
@@ -144,7 +148,7 @@ module _ {ws : List ℕ} {n a from i : ℕ} (s : Listed ws n) (on : Skipping ws 
 
 -- it goes on past its end, where the words that started since have ended
 pub run-on : {ws : List ℕ} {n a at i limit : ℕ} {clear : Bool} (cell end until : ℕ) → Listed ws n → Covers ws n a cell until at
-    → SkippedIs ws n a at i clear → clear ≡ true → NextIs (routes ws) a limit → LowerIs limit until end → a < until → RunIs ws n a cell end until i
+    → SkippedIs ws n a at i clear → clear ≡ true → NextIs (routes ws) a limit → LowerIs limit until end → a < until → RunIs ws n a (runOf cell end until i)
 run-on {ws} {n} {a} {at} {i} cell end until s c skipped so next ends up =
     let q = skipped .count so in
     run-by a s q next cell end until up ends (λ b from h clear.
@@ -156,7 +160,7 @@ run-on {ws} {n} {a} {at} {i} cell end until s c skipped so next ends up =
     (λ ge. clear k ge high m)))
 
 -- what holds at an address holds at a later one
-pub kept-later : {ws : List ℕ} {n a b found end until at : ℕ} → a ≤ b → Kept ws n a found end until at → Kept ws n b found end until at
+pub kept-later : {ws : List ℕ} {n a b : ℕ} {run : Run} → a ≤ b → Kept ws n a run → Kept ws n b run
 kept-later up k =
     let c = k .covers in
     record {

@@ -2,4 +2,4 @@
 mod Matches
 mod Same
 mod Places
-mod Covered
+pub mod Covered

@@ -9,6 +9,7 @@ use Rattle.prefix.specs.Routes.{best}
 use Rattle.cells.specs.Cells.{cellOf}
 use Rattle.rules.specs.Words.{prefixOf}
 use Rattle.rules.specs.Rules.{routes}
+use Rattle.runs.specs.declared.Run.{Run}
 
 -- none of the n words from index at on contains b
 abbrev pub Clear : List ℕ → ℕ → ℕ → ℕ → Type 0
@@ -24,14 +25,14 @@ pub record Covers (ws : List ℕ) (n a found until at : ℕ) : Type 0 where
   pub counted : Started ws n a at
   pub covers : (b : ℕ) → a ≤ b → b < until → Clear ws n at b → found ≡ cellOf (best (routes ws) b)
 
--- every address from a on and before the end has the longest match whose cell is found, and what covers a later one
-pub record Kept (ws : List ℕ) (n a found end until at : ℕ) : Type 0 where
-  pub same : (b : ℕ) → a ≤ b → b < end → found ≡ cellOf (best (routes ws) b)
-  pub covers : Covers ws n a found until at
+-- every address from a on and before the run's end has the longest match of its cell, and what covers a later one
+pub record Kept (ws : List ℕ) (n a : ℕ) (run : Run) : Type 0 where
+  pub same : (b : ℕ) → a ≤ b → b < run .end → run .cell ≡ cellOf (best (routes ws) b)
+  pub covers : Covers ws n a (run .cell) (run .until) (run .at)
 
 -- the cell of the longest match of a, kept to an end past a
-pub record RunIs (ws : List ℕ) (n a found end until at : ℕ) : Type 0 where
-  pub is : found ≡ cellOf (best (routes ws) a)
-  pub past : a < end
-  pub within : end ≤ 2 ^ 32
-  pub kept : Kept ws n a found end until at
+pub record RunIs (ws : List ℕ) (n a : ℕ) (run : Run) : Type 0 where
+  pub is : run .cell ≡ cellOf (best (routes ws) a)
+  pub past : a < run .end
+  pub within : run .end ≤ 2 ^ 32
+  pub kept : Kept ws n a run

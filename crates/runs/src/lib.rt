@@ -137,7 +137,7 @@ fn run_of(word: u64, limit: u64, at: usize) -> Run
 // The longest match of an address among the first `live` words, and its run.
 pub fn longest(rules: &[u64], live: usize, address: u32) -> Run
     requires { ⌜ Listed (now rules) live ⌝ }
-    ensures { λ r. ⌜ RunIs (now (rules .entry)) live address (r .cell) (r .end) (r .until) (r .at) ⌝ }
+    ensures { λ r. ⌜ RunIs (now (rules .entry)) live address r ⌝ }
 {
     let first = up_to(rules, live, address, 32);
     let limit = next(rules, live, address, first);

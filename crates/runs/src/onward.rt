@@ -43,7 +43,7 @@ fn skip_ended(rules: &[u64], live: usize, from: usize, address: u32) -> Skipped
 pub fn asked(rules: &[u64], live: usize, address: u32, cell: u32, until: u64, at: usize) -> Run
     requires { ⌜ Listed (now rules) live ⌝ }
     requires { ⌜ Covers (now rules) live address cell until at ⌝ }
-    ensures { λ r. ⌜ RunIs (now (rules .entry)) live address (r .cell) (r .end) (r .until) (r .at) ⌝ }
+    ensures { λ r. ⌜ RunIs (now (rules .entry)) live address r ⌝ }
 {
     if until <= address as u64 {
         return crate::longest(rules, live, address);
