@@ -3,3 +3,4 @@ mod Matches
 mod Same
 mod Places
 pub mod Covered
+mod Counted

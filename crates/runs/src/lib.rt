@@ -53,11 +53,11 @@ fn shared(address: u32, other: u32, limit: u32) -> u32
     requires { ⌜ (0 < limit) × (limit ≤ 32) ⌝ }
     ensures { λ r. ⌜ SharedIs address other limit r ⌝ }
 {
-    let mut bits = limit - 1;
-    while !agree(address, other, bits) {
-        bits -= 1;
+    let bits = u32::leading_zeros(other ^ address);
+    if bits < limit {
+        return bits;
     }
-    bits
+    limit - 1
 }
 
 // Whether no word is left, or the last of the first `i` contains the address.
