@@ -80,18 +80,21 @@ module _ {ws : List ℕ} {n i : ℕ} (a : ℕ) (s : Listed ws n) (q : CountUpTo 
 
     pub run-found : {r : Route} (cell end until at : ℕ) → IsLongest (routes ws) a r → cell ≡ pack (r .hop) (r .prefix .length)
         → until ≡ r .prefix .address + span (r .prefix .length) → LowerIs limit until end → at ≡ i → RunIs ws n a (runOf cell end until at)
-    run-found {r} cell end until at l e u ends same =
-        subst (λ (x : ℕ). RunIs ws n a (runOf cell end until x)) (sym same)
+    run-found {r} cell end until at l e u ends counts =
+        subst (λ (x : ℕ). RunIs ws n a (runOf cell end until x)) (sym counts)
         (run-by cell end until
         (subst (λ (x : ℕ). a < x) (sym u) (in-range (s .all r (l .live) .formed) (l .contains) .1)) ends (λ b from h clear.
-        e ∙ sym (ap cellOf (same-longest (s .all) b from (started-by b clear) l (subst (λ (x : ℕ). b < x) u h) ∙ is-best (s .all) (s .order) (found r refl l)))))
+        let same = same-longest (s .all) b from (started-by b clear) l (subst (λ (x : ℕ). b < x) u h) in
+        e ∙ sym (ap cellOf (same ∙ is-best (s .all) (s .order) (found r refl l)))))
 
 -- ---- the words that are skipped
 
--- what a call's two bits of a word and its test say
-pub agrees? : {t : Bool} (w a b l : ℕ) → b ≡ prefixOf w .address → l ≡ prefixOf w .length → t ≡ eqb (top l b) (top l a) → Decides (Contains (prefixOf w) a) t
+-- whether a word contains a, by a test that it agrees with a on its length
+pub agrees? : {t : Bool} (w a b l : ℕ) → b ≡ prefixOf w .address → l ≡ prefixOf w .length → t ≡ eqb (top l b) (top l a)
+    → Decides (Contains (prefixOf w) a) t
 unfolding contains
-agrees? w a b l eb el e = subst (Decides (Contains (prefixOf w) a)) (sym (e ∙ ap₂ (λ (m d : ℕ). eqb (top m d) (top m a)) el eb)) (contains? (prefixOf w) a)
+agrees? w a b l eb el e =
+    subst (Decides (Contains (prefixOf w) a)) (sym (e ∙ ap₂ (λ (m d : ℕ). eqb (top m d) (top m a)) el eb)) (contains? (prefixOf w) a)
 
 -- on the way: the words before index i started, and from index from on none contains a
 pub record Skipping (ws : List ℕ) (n a from i : ℕ) : Type 0 where
@@ -148,7 +151,8 @@ module _ {ws : List ℕ} {n a from i : ℕ} (s : Listed ws n) (on : Skipping ws 
 
 -- it goes on past its end, where the words that started since have ended
 pub run-on : {ws : List ℕ} {n a at i limit : ℕ} {clear : Bool} (cell end until : ℕ) → Listed ws n → Covers ws n a cell until at
-    → SkippedIs ws n a at i clear → clear ≡ true → NextIs (routes ws) a limit → LowerIs limit until end → a < until → RunIs ws n a (runOf cell end until i)
+    → SkippedIs ws n a at i clear → clear ≡ true → NextIs (routes ws) a limit → LowerIs limit until end → a < until
+    → RunIs ws n a (runOf cell end until i)
 run-on {ws} {n} {a} {at} {i} cell end until s c skipped so next ends up =
     let q = skipped .count so in
     run-by a s q next cell end until up ends (λ b from h clear.

@@ -60,13 +60,13 @@ module _ (t : Prefix) (f : ℕ → ℕ → ℕ) where
     count = omega (arith, p .count, differing-refl (T .first));
   }
 
--- a block that points owns its segment, and that is lent whole
+-- a block that points owns its segment, and a run of that is lent
 pub owns-one : {t : Prefix} {T : Tables} {b : ℕ} → BlocksReady t b (b + 1) T → Points T b → Owns T b (segmentAt T b)
 owns-one {b = b} ready pointer = ready .owned b (le-refl b) (omega arith) pointer
 
-pub segment-within : {t : Prefix} {T : Tables} {b s from to : ℕ} → Sized t T → Owns T b s → from ≡ s * blockSize → to ≡ from + blockSize
+pub segment-within : {t : Prefix} {T : Tables} {b s from to : ℕ} → Sized t T → Owns T b s → s * blockSize ≤ from → from ≤ to → to ≤ s * blockSize + blockSize
     → Within from to (T .long)
-segment-within sized owns low high = record { ordered = omega arith; inside = omega (arith, owns .lent, sized .longs); few = omega arith }
+segment-within sized owns low ordered high = record { ordered = ordered; inside = omega (arith, owns .lent, sized .longs); few = omega arith }
 
 -- a run of the segment of block b, from the place j on, by the addresses counted from the run's first cell
 pub run-addressed : (f : ℕ → ℕ → ℕ) (t : Prefix) {T : Tables} {b s : ℕ} → Owns T b s → (j : ℕ) {from to a r : ℕ} {xs ys : List ℕ}

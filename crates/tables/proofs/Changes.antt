@@ -20,3 +20,7 @@ module _ (f : Tables → Tables) (before : Tables) {after : Tables} {r : ℕ} wh
 
   pub left-cells : left r after ≡ leaves f before → r ≡ changed before (f before)
   left-cells e = ap (λ x. x .cells) e
+
+-- two changes that give the same leave the same
+pub leaves-as : (f g : Tables → Tables) (before : Tables) → f before ≡ g before → leaves f before ≡ leaves g before
+leaves-as f g before e = ap (λ (after : Tables). left (changed before after) after) e

@@ -22,7 +22,7 @@ use Rattle.tables.specs.inner.Ready.{Points, segmentAt, Owns, Ready, Rep
 use Rattle.tables.specs.inner.Ranges.{inRange, Within, PrefixRun, RunChanged, BlocksReady, BlocksChanged}
 use Rattle.tables.proofs.Changes.{tablesOf, tables-are, left-is}
 use Rattle.tables.proofs.Ranges.{inRange?}
-use Rattle.tables.proofs.Blocks.{run-addressed}
+use Rattle.tables.proofs.Blocks.{segment-within, run-addressed}
 use Rattle.tables.proofs.Segments.{Open, directAmong?, openAmong?, directIn?, openIn?}
 
 -- ---- a prefix of length up to 24: whole blocks
@@ -32,19 +32,16 @@ module _ {t p : Prefix} {T : Tables} (ready : Ready t p T) where
   block-lent at = omega (arith, spans.block-lent (ready .sized .territory) (ready .formed) (ready .inside), ready .sized .firsts)
 
   module _ (short : p .length ≤ width) {bs : Blocks} (is : bs ≡ touched t p) where
-    abbrev b : ℕ
-    b = bs .from
-
     abbrev e : ℕ
     e = bs .from + bs .count
 
-    from : b ≡ blockOf t (p .address)
+    from : bs .from ≡ blockOf t (p .address)
     from = ap (λ (x : Blocks). x .from) is
 
     count : bs .count ≡ blocks p
     count = ap (λ (x : Blocks). x .count) is
 
-    pub blocks-ready : BlocksReady t b e T
+    pub blocks-ready : BlocksReady t (bs .from) e T
     blocks-ready = record {
       sized = ready .sized;
       ordered = omega arith;
@@ -52,23 +49,23 @@ module _ {t p : Prefix} {T : Tables} (ready : Ready t p T) where
       owned = λ k low high pointer. ready .owned k (omega (arith, from)) (omega (arith, from, count)) pointer;
     }
 
-    inside : (k j : ℕ) → j < blockSize → Contains p (blockStart t k + j) → (b ≤ k) × (k < e)
+    inside : (k j : ℕ) → j < blockSize → Contains p (blockStart t k + j) → (bs .from ≤ k) × (k < e)
     inside k j l c = omega (arith, from, count, spans.blocks-in (ready .sized .territory) (ready .formed) (ready .inside) short k j l c)
 
-    contained : (k j : ℕ) → j < blockSize → (b ≤ k) × (k < e) → Contains p (blockStart t k + j)
+    contained : (k j : ℕ) → j < blockSize → (bs .from ≤ k) × (k < e) → Contains p (blockStart t k + j)
     contained k j l r =
         spans.by-blocks (ready .sized .territory) (ready .formed) (ready .inside) short k j l (omega (arith, from)) (omega (arith, from, count))
 
-    pub blocks-repainted : (f : ℕ → ℕ → ℕ) {first long : List ℕ} {r : ℕ} → BlocksChanged t f b e T first long r
+    pub blocks-repainted : (f : ℕ → ℕ → ℕ) {first long : List ℕ} {r : ℕ} → BlocksChanged t f (bs .from) e T first long r
         → left r (tablesOf first long (T .owners)) ≡ leaves (repainted t p f) T
     unfolding repainted
     blocks-repainted f c =
         left-is (repainted t p f) T
         (tables-are
-        (c .firsts ∙ where-same (directAmong? b e (T .first)) (directIn? t p (T .first)) _ (T .first)
+        (c .firsts ∙ where-same (directAmong? (bs .from) e (T .first)) (directIn? t p (T .first)) _ (T .first)
         (λ k d. record { meets = subst (Contains p) (add-zero _) (contained k 0 (lit< tt) (d .meets)); direct = d .direct })
         (λ k d. record { meets = inside k 0 (lit< tt) (subst (Contains p) (sym (add-zero _)) (d .meets)); direct = d .direct }))
-        (c .longs ∙ where-same (openAmong? b e T) (openIn? t p T) _ (T .long)
+        (c .longs ∙ where-same (openAmong? (bs .from) e T) (openIn? t p T) _ (T .long)
         (λ i o. record { block = o .block; meets = contained (o .block) (i % blockSize) (mod-lt i (lit< tt)) (o .meets); owner = o .owner; points = o .points })
         (λ i o. record { block = o .block; meets = inside (o .block) (i % blockSize) (mod-lt i (lit< tt)) (o .meets); owner = o .owner; points = o .points }))
         refl)
@@ -91,7 +88,8 @@ module _ {t p : Prefix} {T : Tables} (h : Closable t p T) {b : ℕ} (at : b ≡ 
   unfolding repainted
   firsts-stay f =
       where-none (directIn? t p (T .first)) _ (T .first) (λ k d.
-      let q = spans.run-in (h .ready .sized .territory) (h .ready .formed) (h .ready .inside) (h .longer) k 0 (lit< tt) (subst (Contains p) (sym (add-zero _)) (d .meets)) in
+      let own : Contains p (blockStart t k + 0) = subst (Contains p) (sym (add-zero _)) (d .meets) in
+      let q = spans.run-in (h .ready .sized .territory) (h .ready .formed) (h .ready .inside) (h .longer) k 0 (lit< tt) own in
       let same : k ≡ b = omega arith in
       let e : getD (T .first) k 0 ≡ pointTo (segmentAt T b) = rw same (owns .points) in
       omega (arith, d .direct))
@@ -99,7 +97,8 @@ module _ {t p : Prefix} {T : Tables} (h : Closable t p T) {b : ℕ} (at : b ≡ 
   pub in-segment : (i : ℕ) → Open (λ k. Contains p (blockStart t k + i % blockSize)) T i
       → (i / blockSize ≡ segmentAt T b) × (p .address % blockSize ≤ i % blockSize) × (i % blockSize < p .address % blockSize + span (p .length))
   in-segment i o =
-      let q = spans.run-in (h .ready .sized .territory) (h .ready .formed) (h .ready .inside) (h .longer) (o .block) (i % blockSize) (mod-lt i (lit< tt)) (o .meets) in
+      let q = spans.run-in (h .ready .sized .territory) (h .ready .formed) (h .ready .inside) (h .longer) (o .block) (i % blockSize)
+      (mod-lt i (lit< tt)) (o .meets) in
       let same : o .block ≡ b = omega arith in
       let e : getD (T .first) b 0 ≡ pointTo (i / blockSize) = rw same at (o .points) in
       omega arith
@@ -108,11 +107,7 @@ module _ {t p : Prefix} {T : Tables} (h : Closable t p T) {b : ℕ} (at : b ≡ 
     pub run-within : Within from to (T .long)
     run-within =
         let i = spans.run-inside (h .ready .sized .territory) (h .ready .formed) (h .ready .inside) (h .longer) in
-        record {
-          ordered = omega (arith, run .high);
-          inside = omega (arith, run .low, run .high, owns .lent, h .ready .sized .longs);
-          few = omega (arith, run .high);
-        }
+        segment-within (h .ready .sized) owns (omega (arith, run .low)) (omega (arith, run .high)) (omega (arith, run .low, run .high))
 
     -- by the addresses counted from the run's first cell
     pub run-counted : (f : ℕ → ℕ → ℕ) {r : ℕ} {xs ys : List ℕ} → RunChanged (λ i. f (p .address + (i - from))) from to xs ys r

@@ -97,7 +97,8 @@ pub record BlocksUnpainted (t : Prefix) (l : ℕ) (ws : List ℕ) (live from to 
   pub kept : Kept ws live (blockStart t to) run
 
 -- some of the blocks from..to are, up to at
-pub record SomeUnpainted (t : Prefix) (l : ℕ) (ws : List ℕ) (live from to : ℕ) (tables : Tables) (first long : List ℕ) (r : ℕ) (run : Run) (at : ℕ) : Type 0 where
+pub record SomeUnpainted (t : Prefix) (l : ℕ) (ws : List ℕ) (live from to : ℕ) (tables : Tables) (first long : List ℕ) (r : ℕ) (run : Run) (at : ℕ)
+    : Type 0 where
   pub some : from < at
   pub within : at ≤ to
   pub done : BlocksUnpainted t l ws live from at tables first long r run

@@ -31,7 +31,8 @@ lower-requires c κs = search needs
 returns-3 : tie.Need-returns-3
 returns-3 c =
     let s = c .before .before .before .before .before .before .before in
-    run-on (s .args .cell) (c .lower .result) (s .args .until) (s .pre .0) (s .pre .1) (c .before .before .before .before .skip-ended .ensures) (not-false _ (c .before .before .if2 .left))
+    let skipped = c .before .before .before .before .skip-ended .ensures in
+    run-on (s .args .cell) (c .lower .result) (s .args .until) (s .pre .0) (s .pre .1) skipped (not-false _ (c .before .before .if2 .left))
     (c .before .next .ensures) (c .lower .ensures) (omega arith)
 
 pub asked-spec : {M : Type 1} → statement M

@@ -30,13 +30,16 @@ address-requires c κs = tt
 
 returns : tie.Need-returns Inv-loop μ-loop
 returns c =
-    skip-later (c .before .before .before .before .before .before .pre .0) (c .before .before .before .before .loop .inv) (omega arith) (omega (arith, c .before .address .ensures))
+    let at-loop = c .before .before .before .before in
+    skip-later (at-loop .before .before .pre .0) (at-loop .loop .inv) (omega arith) (omega (arith, c .before .address .ensures))
 
 length-requires : tie.Need-length-requires Inv-loop μ-loop
 length-requires c κs = tt
 
 agree-requires : tie.Need-agree-requires Inv-loop μ-loop
-agree-requires c κs = omega (arith, listed-route (c .before .before .before .before .before .before .before .pre .0) (c .before .before .before .before .before .loop .i) (omega arith) .formed .short, c .length .ensures)
+agree-requires c κs =
+    let at-loop = c .before .before .before .before .before in
+    omega (arith, listed-route (at-loop .before .before .pre .0) (at-loop .loop .i) (omega arith) .formed .short, c .length .ensures)
 
 returns-2 : tie.Need-returns-2 Inv-loop μ-loop
 returns-2 c = skip-met

@@ -34,6 +34,7 @@ fill-run-requires c κs =
     let s = entry (c .before .before .before) in
     let run = c .before .segment-cells .ensures in
     segment-within (s .pre .0 .ready .sized) (owns (s .pre .0) (s .pre .1)) (omega (arith, run .low)) (omega (arith, run .high))
+    (omega (arith, run .low, run .high))
 
 mul-owners : tie.Need-mul-owners
 mul-owners c = search needs

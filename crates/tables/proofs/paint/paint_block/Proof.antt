@@ -33,7 +33,7 @@ paint-run-requires : tie.Need-paint-run-requires
 paint-run-requires c κs =
     let k = c .before .before in
     let run = c .before .segment-cells .ensures in
-    segment-within (entry k .pre .sized) (owns k) (omega (arith, run .low)) (omega (arith, run .high))
+    segment-within (entry k .pre .sized) (owns k) (omega (arith, run .low)) (omega (arith, run .high)) (omega (arith, run .low, run .high))
 
 same-length : tie.Need-same-length
 same-length c = search needs

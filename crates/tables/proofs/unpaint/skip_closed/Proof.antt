@@ -45,7 +45,8 @@ loop-less c = search needs
 
 loop-again : tie.Need-loop-again Inv-loop μ-loop
 loop-again c =
-    closed-more (c .before .before .before .before .before .before .loop .inv) (omega arith) (leb-false _ _ (sym (c .before .before .before .is-pointer .ensures) ∙ c .before .before .if1 .left))
+    let direct = leb-false _ _ (sym (c .before .before .before .is-pointer .ensures) ∙ c .before .before .if1 .left) in
+    closed-more (c .before .before .before .before .before .before .loop .inv) (omega arith) direct
     (sym (c .before .stays .ensures) ∙ not-false _ (c .if2 .left))
 
 returns-3 : tie.Need-returns-3 Inv-loop μ-loop

@@ -1,7 +1,7 @@
 -- `unpaint::unpaint` meets its contract. A prefix of length up to 24 is a run of blocks; a longer one is a run of cells in its block's
 -- segment. The run kept at first is that of the prefix's own address. Assumes nothing.
 use mathlib.Core.Path.{_≡_, ap}
-use Prim.Native.Nat.{_+_, _^_, _<_}
+use Prim.Native.Nat.{_+_}
 use native.Mathlib.Omega.{arith}
 use denote.Ref.{now}
 use borrow.Author.Needs.{needs}
@@ -84,9 +84,10 @@ unpaint-run-requires c κs =
     let at-segment = c .before .before in
     let k = at-segment .before .before in
     let s = entry (k .before) in
-    let small : s .args .prefix .address < 2 ^ 32 = omega arith in (
-      run-within (open-block k) (from s) (at-segment .segment .ensures) (c .before .run-of .ensures),
-      (omega (arith, c .before .run-of .ensures .high, ends-within (s .pre .0 .ready .formed) small), record { listed = s .pre .1 .1; kept = k .before .longest .ensures .kept }),
+    let run = c .before .run-of .ensures in
+    let small = ends-within (s .pre .0 .ready .formed) (omega arith) in (
+      run-within (open-block k) (from s) (at-segment .segment .ensures) run,
+      (omega (arith, run .high, small), record { listed = s .pre .1 .1; kept = k .before .longest .ensures .kept }),
     )
 
 same-length-3 : tie.Need-same-length-3

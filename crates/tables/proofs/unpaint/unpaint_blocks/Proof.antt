@@ -20,8 +20,11 @@ Inv-loop first₀ long₀ owners rules live territory from to length changed₀ 
 abbrev μ-loop : tie.MeasureT-loop
 μ-loop first₀ long₀ owners rules live territory from to length changed₀ kept₀ block₀ first long changed kept block = to - block
 
+abbrev entry : tie.At-loop Inv-loop μ-loop → tie.Start Inv-loop μ-loop
+entry c = c .before .before .before .before .before .before .before
+
 skip-closed-requires : tie.Need-skip-closed-requires Inv-loop μ-loop
-skip-closed-requires c κs = record { ordered = c .before .before .before .before .before .pre .0 .ordered; inside = c .before .before .before .before .before .pre .0 .within }
+skip-closed-requires c κs = let ready = c .before .before .before .before .before .pre .0 in record { ordered = ready .ordered; inside = ready .within }
 
 loop-holds : tie.Need-loop-holds Inv-loop μ-loop
 loop-holds c =
@@ -37,33 +40,41 @@ loop-holds c =
 
 unpaint-some-requires : tie.Need-unpaint-some-requires Inv-loop μ-loop
 unpaint-some-requires c κs =
-    let s = c .before .before .before .before .before .before .before .before .before .before in
-    let inv = c .before .before .before .loop .inv in
+    let at-loop = c .before .before .before in
+    let s = entry at-loop in
+    let inv = at-loop .loop .inv in
     (ready-then (inv .2 .blocks) (inv .0) (inv .1) (le-refl _) (s .pre .0), (omega arith, record { listed = s .pre .1 .listed; kept = inv .2 .kept }))
 
 add-changed : tie.Need-add-changed Inv-loop μ-loop
 add-changed c =
-    let inv = c .before .before .before .before .before .before .before .before .before .before .loop .inv in
     let turned = c .before .before .before .before .before .before .unpaint-some .ensures in
-    record { fits = few-blocks (blocks-then (inv .2 .blocks) (inv .0) (omega (arith, turned .some)) (turned .done .blocks)) (c .before .before .before .before .before .before .before .before .before .before .before .before .before .before .before .before .before .pre .0) }
+    let at-loop = c .before .before .before .before .before .before .before .before .before .before in
+    let inv = at-loop .loop .inv in
+    let blocks = blocks-then (inv .2 .blocks) (inv .0) (omega (arith, turned .some)) (turned .done .blocks) in
+    record { fits = few-blocks blocks (entry at-loop .pre .0) }
 
 skip-closed-requires-2 : tie.Need-skip-closed-requires-2 Inv-loop μ-loop
 skip-closed-requires-2 c κs =
-    let inv = c .before .before .before .before .before .before .before .before .before .before .before .loop .inv in
     let turned = c .before .before .before .before .before .before .before .unpaint-some .ensures in
+    let at-loop = c .before .before .before .before .before .before .before .before .before .before .before in
+    let inv = at-loop .loop .inv in
     record {
       ordered = turned .within;
-      inside = omega (arith, same-firsts (turned .done .blocks), same-firsts (inv .2 .blocks), c .before .before .before .before .before .before .before .before .before .before .before .before .before .before .before .before .before .before .pre .0 .within);
+      inside = omega (arith, same-firsts (turned .done .blocks), same-firsts (inv .2 .blocks), entry at-loop .pre .0 .within);
     }
 
 loop-less : tie.Need-loop-less Inv-loop μ-loop
-loop-less c = let turned = c .before .before .before .before .before .before .before .before .unpaint-some .ensures in omega (arith, turned .some, turned .within, c .skip-closed2 .ensures .skipped .low, c .skip-closed2 .ensures .skipped .high)
+loop-less c =
+    let turned = c .before .before .before .before .before .before .before .before .unpaint-some .ensures in
+    let passed = c .skip-closed2 .ensures .skipped in
+    omega (arith, turned .some, turned .within, passed .low, passed .high)
 
 loop-again : tie.Need-loop-again Inv-loop μ-loop
 loop-again c =
-    let a = c .before .before .before .before .before .before .before .before .before .before .before .before .before .before .before .before .before .before .before .args in
-    let inv = c .before .before .before .before .before .before .before .before .before .before .before .before .loop .inv in
     let turned = c .before .before .before .before .before .before .before .before .unpaint-some .ensures in
+    let at-loop = c .before .before .before .before .before .before .before .before .before .before .before .before in
+    let inv = at-loop .loop .inv in
+    let a = entry at-loop .args in
     let passed = c .skip-closed2 .ensures in (
       omega (arith, inv .0, turned .some, passed .skipped .low),
       passed .skipped .high,

@@ -63,7 +63,10 @@ replace-run-requires : tie.Need-replace-run-requires Inv-loop μ-loop
 replace-run-requires c κs = search needs
 
 add-changed : tie.Need-add-changed Inv-loop μ-loop
-add-changed c = omega (arith, c .before .before .before .before .before .before .before .before .loop .inv .0 .few, c .before .before .replace-run .ensures .few, c .before .before .before .before .before .before .before .before .before .before .before .before .before .pre .0 .few, c .before .before .before .before .reach .ensures .few)
+add-changed c =
+    let at-loop = c .before .before .before .before .before .before .before .before in
+    let all = at-loop .before .before .before .before .before .pre .0 in
+    omega (arith, at-loop .loop .inv .0 .few, c .before .before .replace-run .ensures .few, all .few, c .before .before .before .before .reach .ensures .few)
 
 skip-requires-2 : tie.Need-skip-requires-2 Inv-loop μ-loop
 skip-requires-2 c κs = search needs
@@ -73,15 +76,15 @@ loop-less c = search needs
 
 loop-again : tie.Need-loop-again Inv-loop μ-loop
 loop-again c =
-    let s = c .before .before .before .before .before .before .before .before .before .before .before .before .before .before .before in
-    let at-loop = c .before .before .before .before .before .before .before .before .before .before .loop in
+    let at-loop = c .before .before .before .before .before .before .before .before .before .before in
+    let s = at-loop .before .before .before .before .before in
     let found = c .before .before .before .before .before .before .before .before .run-at .ensures in
     let reached = c .before .before .before .before .before .before .reach .ensures in
     let replaced = c .before .before .before .before .replace-run .ensures in
     let passed = c .skip2 .ensures in
     let address : ℕ → ℕ = λ k. s .args .start + (k - s .args .from) in (
       part-none
-          (part (at-loop .inv .0) (omega arith) (omega (arith, reached .few))
+          (part (at-loop .loop .inv .0) (omega arith) (omega (arith, reached .few))
           (run-taken (s .args .length) address (found .kept) (λ k low high. (omega arith, omega (arith, reached .fit))) (replaced .changed)) (replaced .few))
           (passed .low) (passed .high) (skipped-run passed (routes (s .args .rules .now)) address),
       kept-later (omega (arith, passed .low, reached .some)) (found .kept),

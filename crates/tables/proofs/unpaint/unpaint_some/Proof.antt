@@ -62,7 +62,7 @@ unpaint-run-requires c κs =
     let k = c .before .before in
     let s = entry (begun k) in
     let run = c .before .segment-cells .ensures in (
-      segment-within (s .pre .0 .sized) (owns k) (omega (arith, run .low)) (omega (arith, run .high)),
+      segment-within (s .pre .0 .sized) (owns k) (omega (arith, run .low)) (omega (arith, run .high)) (omega (arith, run .low, run .high)),
       (omega (arith, run .high, begun k .block-start .ensures, end s), asking (begun k)),
     )
 
@@ -101,23 +101,26 @@ sub-piece c = search needs
 
 piece-requires : tie.Need-piece-requires
 piece-requires c κs =
-    let s = c .before .before .before .before .before .before .before .before .before .before .before in (
+    let at-else = c .before .before .before in
+    let s = entry (at-else .before .before .before) in (
       record { ordered = omega arith; inside = s .pre .0 .within },
-      ((omega arith, omega (arith, c .before .before .run-at .ensures .past)), closed-one (s .args .block) (now (s .args .first)) (direct (c .before .before .before))),
+      ((omega arith, omega (arith, c .before .before .run-at .ensures .past)), closed-one (s .args .block) (now (s .args .first)) (direct at-else)),
     )
 
 replace-run-requires : tie.Need-replace-run-requires
 replace-run-requires c κs =
     let piece = c .before .piece .ensures in
-    record { ordered = omega (arith, piece .some); inside = omega (arith, piece .within, c .before .before .before .before .before .before .before .before .before .before .before .before .before .pre .0 .within); few = omega (arith, piece .few) }
+    let s = c .before .before .before .before .before .before .before .before .before .before .before .before .before in
+    record { ordered = omega (arith, piece .some); inside = omega (arith, piece .within, s .pre .0 .within); few = omega (arith, piece .few) }
 
 same-length-2 : tie.Need-same-length-2
 same-length-2 c = search needs
 
 returns-2 : tie.Need-returns-2
 returns-2 c =
-    let a = c .before .before .before .before .before .before .before .before .before .before .before .before .before .before .before .before .args in
-    let start = c .before .before .before .before .before .before .before .before .before .before .before .block-start .ensures in
+    let begin = c .before .before .before .before .before .before .before .before .before .before .before in
+    let a = entry begin .args in
+    let start = begin .block-start .ensures in
     let found = c .before .before .before .before .before .before .before .run-at .ensures in
     let piece = c .before .before .before .before .piece .ensures in
     record {
