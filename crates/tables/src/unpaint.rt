@@ -1,6 +1,6 @@
 // Withdrawal's repaint: each cell of a prefix with exactly its length takes the longest match of the rules that are left. That match is kept
-// with the run of addresses that share it, so that the rules are asked again only past the run's end; cells that stay are passed over
-// before, and a loop over cells up to the run's end asks nothing.
+// with the run of addresses that share it, so that the rules are asked again only past the run's end. Cells that stay are passed over
+// first; those from there up to the run's end then take its cell in a loop that asks nothing.
 ghost use mathlib.Core.Path.{_≡_};
 ghost use mathlib.Core.Bool.{true};
 ghost use Prim.Native.Nat.{_+_, _-_, _^_, _≤_, _<_};
@@ -47,7 +47,7 @@ fn stays(cell: u32, length: u32) -> bool
     own != length
 }
 
-// What becomes of a cell by a new one.
+// The new cell in the place of one that does not stay.
 fn replaced(old: u32, new: u32, length: u32) -> u32
     ensures { λ r. ⌜ r ≡ replaced length new old ⌝ }
 {
@@ -100,7 +100,7 @@ fn run_at(rules: &[u64], live: usize, address: u32, run: Run) -> Run
     runs::onward::asked(rules, live, address, run.cell, run.until, run.at)
 }
 
-// How many cells from here on one pass changes, out of `room`: no more than `most`.
+// How many cells one pass changes: the lower of two numbers, neither of which is 0.
 fn reach(most: usize, room: u64) -> usize
     requires { ⌜ (0 < most) × (0 < room) ⌝ }
     ensures { λ r. ⌜ ReachIs most room r ⌝ }
@@ -185,8 +185,8 @@ fn blocks_in(room: u64) -> u64
     room / size
 }
 
-// Where a piece of the blocks block..to ends that takes one cell: no first cell in it is a pointer, and all start within `room` addresses.
-// The first is none; in sound memory the others are none either, since no rule starts in a block that is whole in a run.
+// Where a piece of the blocks block..to ends that takes one cell: all its blocks start within `room` addresses, and no first cell in it is
+// a pointer. The first one is none; in sound memory no other is, since no rule starts in a block that lies whole in a run.
 fn piece(first: &[u32], block: usize, to: usize, room: u64) -> usize
     requires { ⌜ Inside block to (now first) ⌝ }
     requires { ⌜ (block < to) × (0 < room) ⌝ }
@@ -304,7 +304,7 @@ pub fn unpaint(
 {
     let length = prefix.length;
     let block = blocks.from;
-    // The first run is asked for here: with two places that ask, the search stays a call, and the step is small enough to stand in the loops.
+    // The loops only go on from this run, so that the search stays a call in them.
     let run = runs::longest(rules, live, prefix.address);
     if length <= Block::WIDTH {
         let to = block + blocks.count;

@@ -58,7 +58,7 @@ pub record Skipped (l from to : ℕ) (cells : List ℕ) (at : ℕ) : Type 0 wher
 abbrev pub Closed : ℕ → ℕ → List ℕ → Type 0
 Closed from to cells = (k : ℕ) → from ≤ k → k < to → getD cells k 0 < pointerBit
 
--- the same of first cells that are no pointers
+-- the same of first cells, and those before it are no pointers
 pub record SkippedClosed (l from to : ℕ) (first : List ℕ) (at : ℕ) : Type 0 where
   pub skipped : Skipped l from to first at
   pub closed : Closed from at first
@@ -76,7 +76,8 @@ pub record FitIs (room r : ℕ) : Type 0 where
   pub some : 0 < r
   pub fit : blockSize * (r - 1) < room
 
--- the blocks from..at, some of those from..to and no more than a segment has cells, are no pointers, and all start within the first `room` addresses
+-- the blocks from..at, some of those from..to and no more than a segment has cells: all start within the first `room` addresses, and their
+-- first cells are no pointers
 pub record PieceIs (room from to : ℕ) (first : List ℕ) (at : ℕ) : Type 0 where
   pub some : from < at
   pub within : at ≤ to
