@@ -1,7 +1,7 @@
 -- Withdrawal's repaint by parts: cells that stay, and cells up to the end of a run of the longest match, which all take its cell.
 -- Assumes nothing.
 use mathlib.Core.Path.{_≡_, refl, sym, ap, subst, _∙_}
-use mathlib.Core.Bool.{true, false, not}
+use mathlib.Core.Bool.{Bool, true, false, cond, not, _&&_}
 use mathlib.Core.List.{List}
 use Prim.Native.Nat.{ℕ, _+_, _-_, _*_, _/_, _^_, _≤_, _<_}
 use native.Mathlib.Nat.{le-refl, add-zero}
@@ -9,7 +9,7 @@ use native.Mathlib.Omega.{arith}
 use lib.Dec.{eqb}
 use lib.ListN.{getD}
 use Rattle.ground.proofs.Cases.{by-lt}
-use Rattle.ground.proofs.Tests.{Decides, eqb?, and?, not?, iff?, says, denies, same-test, cond-on, cond-off, by-test}
+use Rattle.ground.proofs.Tests.{Decides, eqb?, and?, not?, iff?, says, same-test}
 use Rattle.ground.proofs.Lists.{is-where, where-none, where-same, differing-refl}
 use Rattle.prefix.specs.declared.Prefix.{Prefix}
 use Rattle.prefix.specs.Geometry.{blockSize, blockStart}
@@ -41,13 +41,11 @@ stays? l cell = not? (and? (not? (eqb? cell empty)) (eqb? (lengthOf cell) l))
 module _ (l new cell : ℕ) where
   pub replaced-stay : stays l cell ≡ true → replaced l new cell ≡ cell
   unfolding replaced
-  replaced-stay t = cond-off _ _ (and? (not? (eqb? cell empty)) (eqb? (lengthOf cell) l)) (says (stays? l cell) t)
+  replaced-stay t = ap (λ (x : Bool). cond x cell new) t
 
   pub replaced-new : stays l cell ≡ false → replaced l new cell ≡ new
   unfolding replaced
-  replaced-new t =
-      let goes = and? (not? (eqb? cell empty)) (eqb? (lengthOf cell) l) in
-      by-test goes (λ g. cond-on _ _ goes g) (λ n. absurd (denies (stays? l cell) t n))
+  replaced-new t = ap (λ (x : Bool). cond x cell new) t
 
 -- where a cell is not 0, its length decides
 pub stays-other : (l cell : ℕ) → (cell ≡ empty → ⊥) → not (eqb (lengthOf cell) l) ≡ stays l cell
@@ -55,8 +53,12 @@ stays-other l cell some = same-test (not? (eqb? (lengthOf cell) l)) (iff? (stays
 
 -- a cell that takes the longest match of its address is replaced by that
 unpaint-replaced : (l : ℕ) (rs : List Route) (a cell : ℕ) → replaced l (cellOf (best rs a)) cell ≡ unpaintCell l rs a cell
-unfolding replaced unpaintCell
-unpaint-replaced l rs a cell = refl
+unfolding replaced stays unpaintCell
+unpaint-replaced l rs a cell = turned (not (eqb cell empty) && eqb (lengthOf cell) l)
+  where
+    turned : (t : Bool) → cond (not t) cell (cellOf (best rs a)) ≡ cond t (cellOf (best rs a)) cell
+    turned true = refl
+    turned false = refl
 
 -- ---- a run of cells
 

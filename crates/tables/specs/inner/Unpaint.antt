@@ -32,9 +32,9 @@ pub record Found (ws : List ℕ) (live a : ℕ) (run : Run) : Type 0 where
 unfoldable pub stays : ℕ → ℕ → Bool
 stays l cell = not (not (eqb cell empty) && eqb (lengthOf cell) l)
 
--- a new cell, unless it stays
+-- a new cell in its place, unless it stays
 unfoldable pub replaced : ℕ → ℕ → ℕ → ℕ
-replaced l new cell = cond (not (eqb cell empty) && eqb (lengthOf cell) l) new cell
+replaced l new cell = cond (stays l cell) cell new
 
 -- each of the cells from..to is, and no more differ than there are
 pub record RunReplaced (l new from to : ℕ) (cells after : List ℕ) (r : ℕ) : Type 0 where
