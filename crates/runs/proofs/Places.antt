@@ -37,7 +37,7 @@ module _ {ws : List ℕ} {n i : ℕ} (a l : ℕ) (s : Listed ws n) (short : l �
   pub past-count : (k : ℕ) → i ≤ k → k < n → key (around l a) < key (prefixAt ws k)
   past-count k ge h = key-less (around l a) (prefixAt ws k) short (listed-short s k h) .0 (omega (arith, q .above k ge h))
 
-  pub in-count : (k : ℕ) → k < i → key (prefixAt ws k) ≤ key (around l a)
+  in-count : (k : ℕ) → k < i → key (prefixAt ws k) ≤ key (around l a)
   in-count k lt =
       key-le (prefixAt ws k) (around l a) (listed-short s k (omega (arith, q .within))) short (omega (arith, q .below k lt))
 
