@@ -28,13 +28,13 @@ key-le : (p q : Prefix) → p .length ≤ 32 → q .length ≤ 32 → keyOf p �
 key-le p q h k l = by-lt (key q) (key p) (λ m. absurd (omega (arith, key-less q p k h .1 m))) (λ m. m)
 
 -- a fact of each route, by the index of its word
-each : {ws : List ℕ} {n : ℕ} (P : Route → Type 0) → Listed ws n → ((k : ℕ) → k < n → P (routeOf (getD ws k 0))) → (r : Route) → Mem r (routes ws) → P r
+pub each : {ws : List ℕ} {n : ℕ} (P : Route → Type 0) → Listed ws n → ((k : ℕ) → k < n → P (routeOf (getD ws k 0))) → (r : Route) → Mem r (routes ws) → P r
 each {ws} {n} P s f r m = let i = routes-index ws m in subst P (i .2) (f (i .0) (omega (arith, i .1, s .count)))
 
 -- ---- the last route up to a prefix
 
 module _ {ws : List ℕ} {n i : ℕ} (a l : ℕ) (s : Listed ws n) (short : l ≤ 32) (q : CountUpTo ws n l a i) where
-  past-count : (k : ℕ) → i ≤ k → k < n → key (around l a) < key (prefixAt ws k)
+  pub past-count : (k : ℕ) → i ≤ k → k < n → key (around l a) < key (prefixAt ws k)
   past-count k ge h = key-less (around l a) (prefixAt ws k) short (listed-short s k h) .0 (omega (arith, q .above k ge h))
 
   in-count : (k : ℕ) → k < i → key (prefixAt ws k) ≤ key (around l a)
@@ -60,7 +60,7 @@ module _ {ws : List ℕ} {n i : ℕ} (a l : ℕ) (s : Listed ws n) (short : l �
 
 module _ {ws : List ℕ} {n i : ℕ} (a : ℕ) (s : Listed ws n) (q : CountUpTo ws n 32 a i) where
   -- each word that is counted starts at a or before
-  counted : (k : ℕ) → k < i → prefixAt ws k .address ≤ a
+  pub counted : (k : ℕ) → k < i → prefixAt ws k .address ≤ a
   counted k h = omega (arith, in-count a 32 s (le-refl 32) q k h)
 
   pub next-none : i ≡ n → a < 2 ^ 32 → NextIs (routes ws) a (2 ^ 32)

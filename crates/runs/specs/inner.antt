@@ -1,3 +1,3 @@
--- What the search for the longest match answers: `Run` the whole of it, `Steps` the functions on the way.
-pub mod Run
+-- What the search for the longest match answers: `Kept` the whole of it, `Steps` the functions on the way.
+pub mod Kept
 pub mod Steps

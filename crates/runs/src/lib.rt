@@ -2,25 +2,29 @@
 // step up for each rule on the way that ends before the address, so that no pass over the words is needed.
 ghost use mathlib.Core.Path.{_≡_};
 ghost use Prim.Native.Nat.{_<_, _≤_};
-ghost use Rattle.prefix.specs.Prefixes.{contains};
 ghost use Rattle.prefix.specs.Routes.{IsRoute};
 ghost use Rattle.rules.specs.Words.{routeOf};
 ghost use Rattle.rules.specs.Rules.{routes};
 ghost use Rattle.rules.specs.inner.Places.{Listed};
-ghost use Rattle.runs.specs.inner.Run.{RunIs};
+ghost use Rattle.runs.specs.inner.Kept.{RunIs};
 ghost use Rattle.runs.specs.inner.Steps.{CountUpTo, settled, SharedIs, ClimbIs, NextIs, LowerIs, MatchRunIs};
 use cells::cell::Cell;
 use prefix::Prefix;
 use prefix::span_of;
 use rules::word::Rule;
 
+pub mod onward;
+
 // How many addresses there are.
 const ADDRESSES: u64 = 0x1_0000_0000;
 
-// The cell of the longest match of an address, and an end past the address up to which every address has the same.
+// The cell of the longest match of an address, and an end past the address up to which every address has the same. For what is past the
+// end: where the prefix of the match ends, and how many of the live words are up to the address.
 pub struct Run {
     pub cell: u32,
     pub end: u64,
+    pub until: u64,
+    pub at: usize,
 }
 
 // How many of the live words are up to the prefix of this length around the address.
@@ -36,28 +40,16 @@ fn up_to(rules: &[u64], live: usize, address: u32, length: u32) -> usize
     rules::list::position(rules, live, Rule::key_of(around) + 1)
 }
 
-// Whether the two addresses agree on their first `length` bits.
-fn agree(address: u32, other: u32, length: u32) -> bool
-    requires { ⌜ length ≤ 32 ⌝ }
-    ensures { λ r. ⌜ r ≡ contains (record { address = other; length = length }) address ⌝ }
-{
-    let near = Prefix {
-        address: other,
-        length,
-    };
-    near.contains(address)
-}
-
 // How many leading bits the two addresses share, of fewer than `limit`.
 fn shared(address: u32, other: u32, limit: u32) -> u32
     requires { ⌜ (0 < limit) × (limit ≤ 32) ⌝ }
     ensures { λ r. ⌜ SharedIs address other limit r ⌝ }
 {
-    let mut bits = limit - 1;
-    while !agree(address, other, bits) {
-        bits -= 1;
+    let bits = u32::leading_zeros(other ^ address);
+    if bits < limit {
+        return bits;
     }
-    bits
+    limit - 1
 }
 
 // Whether no word is left, or the last of the first `i` contains the address.
@@ -113,21 +105,24 @@ fn lower(a: u64, b: u64) -> u64
 }
 
 // The run of a match: to the end of its prefix, and no further than `limit`.
-fn run_of(word: u64, limit: u64) -> Run
+fn run_of(word: u64, limit: u64, at: usize) -> Run
     requires { ⌜ IsRoute (routeOf word) ⌝ }
-    ensures { λ r. ⌜ MatchRunIs word limit (r .cell) (r .end) ⌝ }
+    ensures { λ r. ⌜ MatchRunIs word limit at (r .cell) (r .end) (r .until) (r .at) ⌝ }
 {
     let length = Rule::length(word);
+    let until = Rule::address(word) as u64 + span_of(length);
     Run {
         cell: Cell::pack(Rule::hop(word), length),
-        end: lower(limit, Rule::address(word) as u64 + span_of(length)),
+        end: lower(limit, until),
+        until,
+        at,
     }
 }
 
 // The longest match of an address among the first `live` words, and its run.
 pub fn longest(rules: &[u64], live: usize, address: u32) -> Run
     requires { ⌜ Listed (now rules) live ⌝ }
-    ensures { λ r. ⌜ RunIs (routes (now (rules .entry))) address (r .cell) (r .end) ⌝ }
+    ensures { λ r. ⌜ RunIs (now (rules .entry)) live address r ⌝ }
 {
     let first = up_to(rules, live, address, 32);
     let limit = next(rules, live, address, first);
@@ -136,7 +131,9 @@ pub fn longest(rules: &[u64], live: usize, address: u32) -> Run
         return Run {
             cell: Cell::EMPTY,
             end: limit,
+            until: ADDRESSES,
+            at: first,
         };
     }
-    run_of(rules[i - 1], limit)
+    run_of(rules[i - 1], limit, first)
 }

@@ -3,7 +3,7 @@ use Prim.Native.Nat.{_-_}
 use native.Mathlib.Omega.{arith}
 use borrow.Author.Needs.{needs}
 use Rattle.rules.proofs.Indices.{listed-within, listed-route}
-use Rattle.runs.proofs.Same.{run-none, run-found}
+use Rattle.runs.proofs.Covered.{run-none, run-found}
 use Rattle.runs.proofs.longest.Statement.{statement}
 use Rattle.runs.proofs.longest.Tie as tie
 
@@ -19,7 +19,8 @@ climb-requires c κs = search needs
 returns : tie.Need-returns
 returns c =
     let s = c .before .before .before .before .before in
-    run-none (s .pre .all) (c .before .before .next .ensures) (c .before .climb .ensures .none (c .if1 .taken))
+    run-none (s .args .address) (s .pre) (c .before .before .before .up-to .ensures) (c .before .before .next .ensures) (s .fits .address .fits)
+    (c .before .climb .ensures .none (c .if1 .taken))
 
 sub-run-of : tie.Need-sub-run-of
 sub-run-of c = search needs
@@ -39,8 +40,8 @@ returns-2 : tie.Need-returns-2
 returns-2 c =
     let s = c .before .before .before .before .before .before .before in
     let e = c .run-of .ensures in
-    run-found (s .pre .all) (c .before .before .before .before .next .ensures) (s .pre .order)
-    (c .before .before .before .climb .ensures .found (omega arith)) (e .is) (e .ends)
+    run-found (s .args .address) (s .pre) (c .before .before .before .before .before .up-to .ensures) (c .before .before .before .before .next .ensures) _ _ _ _
+    (c .before .before .before .climb .ensures .found (omega arith)) (e .is) (e .reach) (e .ends) (e .counted)
 
 pub longest-spec : {M : Type 1} → statement M
 longest-spec =

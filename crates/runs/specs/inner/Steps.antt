@@ -1,7 +1,7 @@
 -- What the steps of the search answer: they look at one word at a time, the last of those up to a prefix of the address. Assumes nothing.
 use mathlib.Core.Path.{_≡_}
 use Prim.Native.Nat.{ℕ, _+_, _-_, _^_, _≤_, _<_}
-use mathlib.Core.Bool.{Bool, _||_}
+use mathlib.Core.Bool.{Bool, true, _||_}
 use mathlib.Core.List.{List, List·Memᴰ as Mem}
 use lib.Dec.{eqb}
 use lib.ListN.{getD}
@@ -11,7 +11,7 @@ use Rattle.prefix.specs.Routes.{Route, IsLongest}
 use Rattle.cells.specs.Cells.{pack}
 use Rattle.rules.specs.Words.{prefixOf, routeOf, keyOf}
 use Rattle.rules.specs.Rules.{routes}
-use Rattle.rules.specs.inner.Places.{PositionIs}
+use Rattle.rules.specs.inner.Places.{prefixAt, PositionIs}
 
 -- the prefix of length l that contains a
 abbrev pub around : ℕ → ℕ → Prefix
@@ -53,7 +53,15 @@ pub record LowerIs (a b r : ℕ) : Type 0 where
   pub second : r ≤ b
   pub least : (c : ℕ) → c < a → c < b → c < r
 
--- the cell of a word, and the lower of the limit and the end of the word's prefix
-pub record MatchRunIs (w limit found end : ℕ) : Type 0 where
+-- the cell of a word, the end of its prefix, and the lower of this and the limit; at is handed on
+pub record MatchRunIs (w limit first found end until at : ℕ) : Type 0 where
   pub is : found ≡ pack (routeOf w .hop) (prefixOf w .length)
-  pub ends : LowerIs limit (prefixOf w .address + span (prefixOf w .length)) end
+  pub reach : until ≡ prefixOf w .address + span (prefixOf w .length)
+  pub ends : LowerIs limit until end
+  pub counted : at ≡ first
+
+-- of the words from index from on, those up to index at start at the address a or before; if clear, none of them contains a and at is how
+-- many words are up to a
+pub record SkippedIs (ws : List ℕ) (n a from at : ℕ) (clear : Bool) : Type 0 where
+  pub count : clear ≡ true → CountUpTo ws n 32 a at
+  pub ended : clear ≡ true → (k : ℕ) → from ≤ k → k < at → ¬ Contains (prefixAt ws k) a

@@ -12,11 +12,11 @@ use Rattle.prefix.proofs.Spans.{starts}
 use Rattle.cells.specs.Memory.{tables}
 use Rattle.cells.proofs.Lending.{few-firsts}
 use Rattle.rules.specs.Rules.{routes}
+use Rattle.runs.proofs.Covered.{kept-later}
 use Rattle.tables.specs.Cellwise.{unpaintCell}
 use Rattle.tables.specs.inner.Ready.{Closable}
 use Rattle.tables.specs.inner.Ranges.{BlocksReady}
 use Rattle.tables.proofs.Repaints.{block-lent, blocks-ready, blocks-repainted, closable, points, owns, run-within, run-counted, run-repainted}
-use Rattle.tables.proofs.Cellwise.{kept-later, kept-run}
 use Rattle.tables.proofs.unpaint.unpaint.Statement.{statement}
 use Rattle.tables.proofs.unpaint.unpaint.Tie as tie
 
@@ -44,7 +44,7 @@ unpaint-blocks-requires c κs =
     let s = entry (k .before) in
     let pre = s .pre .0 .ready in
     let start = starts (pre .sized .territory) (pre .formed) (pre .inside) (k .if1 .taken) in
-    (ready k, record { listed = s .pre .1 .1; kept = kept-later (omega (arith, from s)) (kept-run (k .before .longest .ensures)) })
+    (ready k, record { listed = s .pre .1 .1; kept = kept-later (omega (arith, from s)) (k .before .longest .ensures .kept) })
 
 same-length : tie.Need-same-length
 same-length c = search needs
@@ -87,7 +87,7 @@ unpaint-run-requires c κs =
     let run = c .before .run-of .ensures in
     let small = ends-within (s .pre .0 .ready .formed) (omega arith) in (
       run-within (open-block k) (from s) (at-segment .segment .ensures) run,
-      (omega (arith, run .high, small), record { listed = s .pre .1 .1; kept = kept-run (k .before .longest .ensures) }),
+      (omega (arith, run .high, small), record { listed = s .pre .1 .1; kept = k .before .longest .ensures .kept }),
     )
 
 same-length-3 : tie.Need-same-length-3
@@ -102,7 +102,7 @@ returns-2 c =
     let run = at-run .before .before .run-of .ensures in
     let f = unpaintCell (s .args .prefix .length) (routes (now (s .args .rules))) in
     run-repainted (open-block k) (from s) (at-segment .segment .ensures) run f
-    (run-counted (open-block k) (from s) (at-segment .segment .ensures) run f (at-run .unpaint-run .ensures .run))
+    (run-counted (open-block k) (from s) (at-segment .segment .ensures) run f (at-run .unpaint-run .ensures .changed))
 
 pub unpaint-spec : {M : Type 1} → statement M
 unpaint-spec =

@@ -1,58 +1,89 @@
 -- `unpaint::unpaint_blocks` meets its contract. The loop's invariant: the blocks before `block` are repainted, `changed` of their cells differ,
 -- and the run kept holds at the address of `block`. The measure is what is left of the blocks. Assumes nothing.
 use Prim.Native.Nat.{_-_, _≤_}
-use native.Mathlib.Nat.{le-antisymm}
+use native.Mathlib.Nat.{le-refl, le-antisymm}
 use native.Mathlib.Omega.{arith}
-use borrow.Author.Needs.{needs}
 use Rattle.rules.specs.Rules.{routes}
+use Rattle.runs.proofs.Covered.{kept-later}
 use Rattle.tables.specs.inner.Unpaint.{BlocksUnpainted}
 use Rattle.tables.proofs.Changes.{tablesOf}
 use Rattle.tables.proofs.Blocks.{blocks-none, few-blocks, blocks-then, ready-then, same-firsts, same-longs}
+use Rattle.tables.proofs.Unpainting.{blocks-passed}
 use Rattle.tables.proofs.unpaint.unpaint_blocks.Statement.{statement}
 use Rattle.tables.proofs.unpaint.unpaint_blocks.Tie as tie
 
 abbrev Inv-loop : tie.InvT-loop
 Inv-loop first₀ long₀ owners rules live territory from to length changed₀ kept₀ block₀ first long changed kept block =
     (from ≤ block) × (block ≤ to)
-    × BlocksUnpainted territory length (routes rules) from block (tablesOf first₀ long₀ owners) first long changed (kept .cell) (kept .end)
+    × BlocksUnpainted territory length rules live from block (tablesOf first₀ long₀ owners) first long changed kept
 
 abbrev μ-loop : tie.MeasureT-loop
 μ-loop first₀ long₀ owners rules live territory from to length changed₀ kept₀ block₀ first long changed kept block = to - block
 
--- within a turn: the loop's head, and the function's entry
-abbrev head : tie.After-struct-known Inv-loop μ-loop → tie.At-loop Inv-loop μ-loop
-head c = c .before .before .before .before .before .before .before .before .before .before
-
 abbrev entry : tie.At-loop Inv-loop μ-loop → tie.Start Inv-loop μ-loop
-entry c = c .before .before .before .before .before
+entry c = c .before .before .before .before .before .before .before
+
+skip-closed-requires : tie.Need-skip-closed-requires Inv-loop μ-loop
+skip-closed-requires c κs = let ready = c .before .before .before .before .before .pre .0 in record { ordered = ready .ordered; inside = ready .within }
 
 loop-holds : tie.Need-loop-holds Inv-loop μ-loop
 loop-holds c =
-    let s = c .before .before .before .before in
-    (omega arith, s .pre .0 .ordered, record { blocks = blocks-none _ _ _ _; kept = s .pre .1 .kept })
+    let s = c .before .before .before .before .before .before in
+    let passed = c .skip-closed .ensures in (
+      passed .skipped .low,
+      passed .skipped .high,
+      record {
+        blocks = blocks-passed (s .args .length) (routes (s .args .rules .now)) (blocks-none _ _ _ _) (le-refl _) passed;
+        kept = kept-later (omega (arith, passed .skipped .low)) (s .pre .1 .kept);
+      },
+    )
 
-unpaint-block-requires : tie.Need-unpaint-block-requires Inv-loop μ-loop
-unpaint-block-requires c κs =
+unpaint-some-requires : tie.Need-unpaint-some-requires Inv-loop μ-loop
+unpaint-some-requires c κs =
     let at-loop = c .before .before .before in
     let s = entry at-loop in
-    let done = at-loop .loop .inv .2 in
-    (ready-then (done .blocks) (at-loop .loop .inv .0) (omega arith) (omega arith) (s .pre .0), record { listed = s .pre .1 .listed; kept = done .kept })
+    let inv = at-loop .loop .inv in
+    (ready-then (inv .2 .blocks) (inv .0) (inv .1) (le-refl _) (s .pre .0), (omega arith, record { listed = s .pre .1 .listed; kept = inv .2 .kept }))
+
+add-changed : tie.Need-add-changed Inv-loop μ-loop
+add-changed c =
+    let turned = c .before .before .before .before .before .before .unpaint-some .ensures in
+    let at-loop = c .before .before .before .before .before .before .before .before .before .before in
+    let inv = at-loop .loop .inv in
+    let blocks = blocks-then (inv .2 .blocks) (inv .0) (omega (arith, turned .some)) (turned .done .blocks) in
+    record { fits = few-blocks blocks (entry at-loop .pre .0) }
+
+skip-closed-requires-2 : tie.Need-skip-closed-requires-2 Inv-loop μ-loop
+skip-closed-requires-2 c κs =
+    let turned = c .before .before .before .before .before .before .before .unpaint-some .ensures in
+    let at-loop = c .before .before .before .before .before .before .before .before .before .before .before in
+    let inv = at-loop .loop .inv in
+    record {
+      ordered = turned .within;
+      inside = omega (arith, same-firsts (turned .done .blocks), same-firsts (inv .2 .blocks), entry at-loop .pre .0 .within);
+    }
+
+loop-less : tie.Need-loop-less Inv-loop μ-loop
+loop-less c =
+    let turned = c .before .before .before .before .before .before .before .before .unpaint-some .ensures in
+    let passed = c .skip-closed2 .ensures .skipped in
+    omega (arith, turned .some, turned .within, passed .low, passed .high)
 
 loop-again : tie.Need-loop-again Inv-loop μ-loop
 loop-again c =
-    let turned = c .before .before .before .before .before .before .unpaint-block .ensures in
-    let inv = head c .loop .inv in
-    (omega arith, omega arith, record { blocks = blocks-then (inv .2 .blocks) (inv .0) (omega arith) (turned .blocks); kept = turned .kept })
-
--- the sum is the count of the next turn's invariant
-add-changed : tie.Need-add-changed Inv-loop μ-loop
-add-changed c = record { fits = few-blocks (loop-again c .2 .blocks) (entry (head c) .pre .0) }
-
-add-block : tie.Need-add-block Inv-loop μ-loop
-add-block c = search needs
-
-loop-less : tie.Need-loop-less Inv-loop μ-loop
-loop-less c = search needs
+    let turned = c .before .before .before .before .before .before .before .before .unpaint-some .ensures in
+    let at-loop = c .before .before .before .before .before .before .before .before .before .before .before .before in
+    let inv = at-loop .loop .inv in
+    let a = entry at-loop .args in
+    let passed = c .skip-closed2 .ensures in (
+      omega (arith, inv .0, turned .some, passed .skipped .low),
+      passed .skipped .high,
+      record {
+        blocks = blocks-passed (a .length) (routes (a .rules .now))
+            (blocks-then (inv .2 .blocks) (inv .0) (omega (arith, turned .some)) (turned .done .blocks)) (omega (arith, inv .0, turned .some)) passed;
+        kept = kept-later (omega (arith, passed .skipped .low)) (turned .done .kept);
+      },
+    )
 
 same-length : tie.Need-same-length Inv-loop μ-loop
 same-length c = same-firsts (c .before .loop .inv .2 .blocks)
@@ -69,10 +100,11 @@ unpaint-blocks-spec =
     (tie.spec
     Inv-loop
     μ-loop
+    skip-closed-requires
     loop-holds
-    unpaint-block-requires
+    unpaint-some-requires
     add-changed
-    add-block
+    skip-closed-requires-2
     loop-less
     loop-again
     same-length

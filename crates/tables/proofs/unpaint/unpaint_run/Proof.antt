@@ -1,82 +1,100 @@
 -- `unpaint::unpaint_run` meets its contract. The loop's invariant: the cells before i are repainted, `changed` of them differ, and the run
 -- kept holds at the address of i. The measure is what is left of the run. Assumes nothing.
-use Prim.Native.Nat.{_+_, _-_}
+use Prim.Native.Nat.{ℕ, _+_, _-_}
 use native.Mathlib.Omega.{arith}
-use borrow.Author.Needs.{needs}
-use Rattle.ground.proofs.Lists.{differs-small}
 use Rattle.rules.specs.Rules.{routes}
+use Rattle.runs.specs.inner.Kept.{Kept}
+use Rattle.runs.proofs.Covered.{kept-later}
 use Rattle.tables.specs.Cellwise.{unpaintCell}
-use Rattle.tables.specs.inner.Unpaint.{Kept}
-use Rattle.tables.proofs.Ranges.{Reached, start, turn, finish}
-use Rattle.tables.proofs.Cellwise.{kept-later}
+use Rattle.tables.proofs.Ranges.{Reached, start, finish}
+use Rattle.tables.proofs.Unpainting.{skipped-run, run-taken, part, part-none}
+use borrow.Author.Needs.{needs}
 use Rattle.tables.proofs.unpaint.unpaint_run.Statement.{statement}
 use Rattle.tables.proofs.unpaint.unpaint_run.Tie as tie
 
 abbrev Inv-loop : tie.InvT-loop
 Inv-loop cells₀ from to start rules live length changed₀ kept₀ i₀ cells changed kept i =
     Reached (λ k. unpaintCell length (routes rules) (start + (k - from))) from to cells₀ cells changed i
-    × Kept (routes rules) (start + (i - from)) (kept .cell) (kept .end)
+    × Kept rules live (start + (i - from)) kept
 
 abbrev μ-loop : tie.MeasureT-loop
 μ-loop cells₀ from to start rules live length changed₀ kept₀ i₀ cells changed kept i = to - i
 
+skip-requires : tie.Need-skip-requires Inv-loop μ-loop
+skip-requires c κs = search needs
+
 loop-holds : tie.Need-loop-holds Inv-loop μ-loop
 loop-holds c =
-    let s = c .before .before in
-    (start (s .pre .0), kept-later (omega arith) (s .pre .1 .1 .kept))
+    let s = c .before .before .before .before in
+    let passed = c .skip .ensures in (
+      part-none (start (s .pre .0)) (passed .low) (passed .high)
+          (skipped-run passed (routes (s .args .rules .now)) (λ (k : ℕ). s .args .start + (k - s .args .from))),
+      kept-later (omega arith) (s .pre .1 .1 .kept),
+    )
 
-mul-old : tie.Need-mul-old Inv-loop μ-loop
-mul-old c = search needs
+sub-address : tie.Need-sub-address Inv-loop μ-loop
+sub-address c = search needs
 
-slice-read-old : tie.Need-slice-read-old Inv-loop μ-loop
-slice-read-old c = search needs
+cast-address : tie.Need-cast-address Inv-loop μ-loop
+cast-address c = search needs
 
-sub-unpainted : tie.Need-sub-unpainted Inv-loop μ-loop
-sub-unpainted c = search needs
+add-address : tie.Need-add-address Inv-loop μ-loop
+add-address c = search needs
 
-cast-unpainted : tie.Need-cast-unpainted Inv-loop μ-loop
-cast-unpainted c = search needs
+run-at-requires : tie.Need-run-at-requires Inv-loop μ-loop
+run-at-requires c κs = record { listed = c .before .before .before .before .before .before .pre .1 .1 .listed; kept = c .before .loop .inv .1 }
 
-add-unpainted : tie.Need-add-unpainted Inv-loop μ-loop
-add-unpainted c = search needs
+sub-reach : tie.Need-sub-reach Inv-loop μ-loop
+sub-reach c = search needs
 
-unpainted-requires : tie.Need-unpainted-requires Inv-loop μ-loop
-unpainted-requires c κs = record { listed = c .before .before .before .before .before .pre .1 .1 .listed; kept = c .before .before .loop .inv .1 }
+cast-reach : tie.Need-cast-reach Inv-loop μ-loop
+cast-reach c = search needs
 
-mul-cells : tie.Need-mul-cells Inv-loop μ-loop
-mul-cells c = search needs
+sub-reach-2 : tie.Need-sub-reach-2 Inv-loop μ-loop
+sub-reach-2 c = search needs
 
-slice-write-cells : tie.Need-slice-write-cells Inv-loop μ-loop
-slice-write-cells c = search needs
+reach-requires : tie.Need-reach-requires Inv-loop μ-loop
+reach-requires c κs = search needs
 
-differ-requires : tie.Need-differ-requires Inv-loop μ-loop
-differ-requires c κs = search needs
+add-stop : tie.Need-add-stop Inv-loop μ-loop
+add-stop c = search needs
+
+replace-run-requires : tie.Need-replace-run-requires Inv-loop μ-loop
+replace-run-requires c κs = search needs
 
 add-changed : tie.Need-add-changed Inv-loop μ-loop
-add-changed c = omega (arith, differs-small _ _ _ (c .differ .ensures))
+add-changed c =
+    let at-loop = c .before .before .before .before .before .before .before .before in
+    let all = at-loop .before .before .before .before .before .pre .0 in
+    omega (arith, at-loop .loop .inv .0 .few, c .before .before .replace-run .ensures .few, all .few, c .before .before .before .before .reach .ensures .few)
 
-add-i : tie.Need-add-i Inv-loop μ-loop
-add-i c = search needs
+skip-requires-2 : tie.Need-skip-requires-2 Inv-loop μ-loop
+skip-requires-2 c κs = search needs
 
 loop-less : tie.Need-loop-less Inv-loop μ-loop
 loop-less c = search needs
 
 loop-again : tie.Need-loop-again Inv-loop μ-loop
 loop-again c =
-    let step = c .before .before .unpainted .ensures in
-    let at-loop = c .before .before .before .before .before in (
-      turn (at-loop .before .before .before .pre .0) (c .before .before .before .before .loop-test .taken)
-          (step .is) (c .differ .ensures) (at-loop .loop .inv .0),
-      kept-later (omega arith) (step .kept),
+    let at-loop = c .before .before .before .before .before .before .before .before .before .before in
+    let s = at-loop .before .before .before .before .before in
+    let found = c .before .before .before .before .before .before .before .before .run-at .ensures in
+    let reached = c .before .before .before .before .before .before .reach .ensures in
+    let replaced = c .before .before .before .before .replace-run .ensures in
+    let passed = c .skip2 .ensures in
+    let address : ℕ → ℕ = λ k. s .args .start + (k - s .args .from) in (
+      part-none
+          (part (at-loop .loop .inv .0) (omega arith) (omega (arith, reached .few))
+          (run-taken (s .args .length) address (found .kept) (λ k low high. (omega arith, omega (arith, reached .fit))) (replaced .changed)) (replaced .few))
+          (passed .low) (passed .high) (skipped-run passed (routes (s .args .rules .now)) address),
+      kept-later (omega (arith, passed .low, reached .some)) (found .kept),
     )
 
 same-length : tie.Need-same-length Inv-loop μ-loop
 same-length c = search needs
 
 returns : tie.Need-returns Inv-loop μ-loop
-returns c =
-    let inv = c .before .loop .inv in
-    record { run = finish (c .loop-test .left) (inv .0); kept = kept-later (omega arith) (inv .1) }
+returns c = let inv = c .before .loop .inv in record { changed = finish (c .loop-test .left) (inv .0); kept = kept-later (omega arith) (inv .1) }
 
 pub unpaint-run-spec : {M : Type 1} → statement M
 unpaint-run-spec =
@@ -84,18 +102,20 @@ unpaint-run-spec =
     (tie.spec
     Inv-loop
     μ-loop
+    skip-requires
     loop-holds
-    mul-old
-    slice-read-old
-    sub-unpainted
-    cast-unpainted
-    add-unpainted
-    unpainted-requires
-    mul-cells
-    slice-write-cells
-    differ-requires
+    sub-address
+    cast-address
+    add-address
+    run-at-requires
+    sub-reach
+    cast-reach
+    sub-reach-2
+    reach-requires
+    add-stop
+    replace-run-requires
     add-changed
-    add-i
+    skip-requires-2
     loop-less
     loop-again
     same-length

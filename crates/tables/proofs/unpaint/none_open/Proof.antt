@@ -1,0 +1,54 @@
+-- `unpaint::none_open` meets its contract. The loop's invariant: where no pointer is counted, the first cells before i are none. The measure is
+-- what is left of the blocks. Assumes nothing.
+use Prim.Native.Nat.{_-_}
+use native.Mathlib.Omega.{arith}
+use borrow.Author.Tests.{eqb-true}
+use Rattle.tables.proofs.Unpainting.{Counted, count-start, count-more}
+use borrow.Author.Needs.{needs}
+use Rattle.tables.proofs.unpaint.none_open.Statement.{statement}
+use Rattle.tables.proofs.unpaint.none_open.Tie as tie
+
+abbrev Inv-loop : tie.InvT-loop
+Inv-loop first from to pointers₀ i₀ pointers i = Counted from to first pointers i
+
+abbrev μ-loop : tie.MeasureT-loop
+μ-loop first from to pointers₀ i₀ pointers i = to - i
+
+loop-holds : tie.Need-loop-holds Inv-loop μ-loop
+loop-holds c = count-start (c .pre .ordered)
+
+mul-pointers : tie.Need-mul-pointers Inv-loop μ-loop
+mul-pointers c = search needs
+
+shared-slice-read-pointers : tie.Need-shared-slice-read-pointers Inv-loop μ-loop
+shared-slice-read-pointers c = search needs
+
+add-pointers : tie.Need-add-pointers Inv-loop μ-loop
+add-pointers c = omega (arith, c .shared-slice-known .given (c .before .before .loop .i), c .before .before .loop .inv .few, c .before .before .before .pre .few)
+
+add-i : tie.Need-add-i Inv-loop μ-loop
+add-i c = search needs
+
+loop-less : tie.Need-loop-less Inv-loop μ-loop
+loop-less c = search needs
+
+loop-again : tie.Need-loop-again Inv-loop μ-loop
+loop-again c = count-more (c .before .before .loop .inv) (omega arith) (omega (arith, c .shared-slice-known .given (c .before .before .loop .i)))
+
+returns : tie.Need-returns Inv-loop μ-loop
+returns c = λ e k low high. c .before .loop .inv .none (eqb-true _ _ e) k low (omega arith)
+
+pub none-open-spec : {M : Type 1} → statement M
+none-open-spec =
+    tie.close
+    (tie.spec
+    Inv-loop
+    μ-loop
+    loop-holds
+    mul-pointers
+    shared-slice-read-pointers
+    add-pointers
+    add-i
+    loop-less
+    loop-again
+    returns)

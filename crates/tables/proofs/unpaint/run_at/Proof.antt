@@ -1,0 +1,17 @@
+-- `unpaint::run_at` meets its contract: before its end the run still holds, and past it the rules are asked. Assumes nothing.
+use native.Mathlib.Omega.{arith}
+use borrow.Author.Needs.{needs}
+use Rattle.tables.proofs.unpaint.run_at.Statement.{statement}
+use Rattle.tables.proofs.unpaint.run_at.Tie as tie
+
+returns : tie.Need-returns
+returns c = record { past = omega arith; kept = search needs }
+
+asked-requires : tie.Need-asked-requires
+asked-requires c κs = search needs
+
+returns-2 : tie.Need-returns-2
+returns-2 c = search needs
+
+pub run-at-spec : {M : Type 1} → statement M
+run-at-spec = tie.close (tie.spec returns asked-requires returns-2)

@@ -1,0 +1,59 @@
+-- `unpaint::skip` meets its contract. The loop's invariant: the cells before i stay. The measure is what is left of the cells. Assumes nothing.
+use mathlib.Core.Path.{sym, _∙_}
+use Prim.Native.Nat.{_-_}
+use native.Mathlib.Omega.{arith}
+use borrow.Author.Tests.{not-false}
+use Rattle.tables.specs.inner.Unpaint.{Skipped}
+use Rattle.tables.proofs.Unpainting.{skip-start, skip-more}
+use borrow.Author.Needs.{needs}
+use Rattle.tables.proofs.unpaint.skip.Statement.{statement}
+use Rattle.tables.proofs.unpaint.skip.Tie as tie
+
+abbrev Inv-loop : tie.InvT-loop
+Inv-loop cells from to length i₀ i = Skipped length from to cells i
+
+abbrev μ-loop : tie.MeasureT-loop
+μ-loop cells from to length i₀ i = to - i
+
+loop-holds : tie.Need-loop-holds Inv-loop μ-loop
+loop-holds c = skip-start (c .before .pre .ordered)
+
+mul-stays : tie.Need-mul-stays Inv-loop μ-loop
+mul-stays c = search needs
+
+shared-slice-read-stays : tie.Need-shared-slice-read-stays Inv-loop μ-loop
+shared-slice-read-stays c = search needs
+
+stays-requires : tie.Need-stays-requires Inv-loop μ-loop
+stays-requires c κs = search needs
+
+returns : tie.Need-returns Inv-loop μ-loop
+returns c = search needs
+
+add-i : tie.Need-add-i Inv-loop μ-loop
+add-i c = search needs
+
+loop-less : tie.Need-loop-less Inv-loop μ-loop
+loop-less c = search needs
+
+loop-again : tie.Need-loop-again Inv-loop μ-loop
+loop-again c = skip-more (c .before .before .before .before .loop .inv) (omega arith) (sym (c .before .stays .ensures) ∙ not-false _ (c .if1 .left))
+
+returns-2 : tie.Need-returns-2 Inv-loop μ-loop
+returns-2 c = search needs
+
+pub skip-spec : {M : Type 1} → statement M
+skip-spec =
+    tie.close
+    (tie.spec
+    Inv-loop
+    μ-loop
+    loop-holds
+    mul-stays
+    shared-slice-read-stays
+    stays-requires
+    returns
+    add-i
+    loop-less
+    loop-again
+    returns-2)
