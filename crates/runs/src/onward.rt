@@ -1,7 +1,5 @@
 // From a run to that of a later address. Past a run's end mostly the match that covered the rules there simply holds again: those that
 // started since are skipped if they ended too, and only where one has not is the longest match searched for.
-ghost use mathlib.Core.Path.{_≡_};
-ghost use Prim.Native.Nat.{_≤_};
 ghost use Rattle.rules.specs.Rules.{Listed};
 ghost use Rattle.runs.specs.Kept.{Started, Covers, RunIs};
 ghost use Rattle.runs.specs.Steps.{SkippedIs};
