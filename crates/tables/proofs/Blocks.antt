@@ -15,12 +15,11 @@ use Rattle.prefix.specs.Geometry.{blockSize, blockStart}
 use Rattle.prefix.proofs.Prefixes.{ends-within}
 use Rattle.prefix.proofs.Spans.{span-blocks}
 use Rattle.cells.specs.Cells.{pointerBit, pointTo}
-use Rattle.cells.specs.Memory.{Tables, Sized}
+use Rattle.cells.specs.Memory.{Tables, Sized, tablesOf}
 use Rattle.cells.proofs.Lending.{few-firsts}
 use Rattle.tables.specs.Cellwise.{cellAddress}
 use Rattle.tables.specs.inner.Ready.{Points, segmentAt, Owns}
 use Rattle.tables.specs.inner.Ranges.{Within, RunChanged, BlocksReady, BlocksChanged}
-use Rattle.tables.proofs.Changes.{tablesOf}
 use Rattle.tables.proofs.Ranges.{inRange?, run-cong}
 use Rattle.tables.proofs.Segments.{Direct, Open, Among, directAmong?, openAmong?, address-owned}
 

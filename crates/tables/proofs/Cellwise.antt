@@ -4,8 +4,8 @@ use mathlib.Core.Logic.{_⊎_}
 use mathlib.Core.List.{List}
 use Prim.Native.Nat.{ℕ, _≤_}
 use Rattle.ground.proofs.Tests.{leb?, eqb?, and?, or?, not?, cond-on, cond-off}
-use Rattle.prefix.specs.Routes.{Route, best}
-use Rattle.cells.specs.Cells.{empty, lengthOf, cellOf}
+use Rattle.prefix.specs.Routes.{Route}
+use Rattle.cells.specs.Cells.{empty, lengthOf}
 use Rattle.tables.specs.Cellwise.{paintCell, unpaintCell}
 
 module _ (l new cell : ℕ) where
@@ -18,10 +18,6 @@ module _ (l new cell : ℕ) where
   paint-off n = cond-off _ _ (or? (eqb? cell empty) (leb? (lengthOf cell) l)) n
 
 module _ (l : ℕ) (rs : List Route) (a cell : ℕ) where
-  pub unpaint-on : (cell ≡ empty → ⊥) → lengthOf cell ≡ l → unpaintCell l rs a cell ≡ cellOf (best rs a)
-  unfolding unpaintCell
-  unpaint-on n e = cond-on _ _ (and? (not? (eqb? cell empty)) (eqb? (lengthOf cell) l)) (n, e)
-
   pub unpaint-off : ((cell ≡ empty → ⊥) × (lengthOf cell ≡ l) → ⊥) → unpaintCell l rs a cell ≡ cell
   unfolding unpaintCell
   unpaint-off n = cond-off _ _ (and? (not? (eqb? cell empty)) (eqb? (lengthOf cell) l)) n

@@ -11,12 +11,12 @@ use Rattle.ground.proofs.Lists.{is-where, getD-off, length-where, differing-one
 use Rattle.prefix.specs.declared.Prefix.{Prefix}
 use Rattle.prefix.specs.Geometry.{blockSize, blockOf}
 use Rattle.cells.specs.Cells.{empty, segmentOf}
-use Rattle.cells.specs.Memory.{Tables}
+use Rattle.cells.specs.Memory.{Tables, tablesOf}
 use Rattle.tables.specs.Cellwise.{repainted}
 use Rattle.tables.specs.Changes.{segmentFilled, closedAt, left, leaves}
 use Rattle.tables.specs.inner.Ready.{segmentAt, Closable}
 use Rattle.tables.specs.inner.Ranges.{RunChanged}
-use Rattle.tables.proofs.Changes.{tablesOf, tables-are, left-is}
+use Rattle.tables.proofs.Changes.{tables-are, left-is}
 use Rattle.tables.proofs.Segments.{openIn?}
 use Rattle.tables.proofs.Filling.{filled-whole, length-filled, getD-filled, getD-other}
 use Rattle.tables.proofs.Repaints.{block-lent, firsts-stay, in-segment}

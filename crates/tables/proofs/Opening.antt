@@ -11,12 +11,12 @@ use Rattle.prefix.specs.declared.Prefix.{Prefix}
 use Rattle.prefix.specs.Geometry.{blockSize, blockOf}
 use Rattle.prefix.proofs.Spans as spans
 use Rattle.cells.specs.Cells.{pointerBit, pointTo, segmentOf}
-use Rattle.cells.specs.Memory.{Tables}
+use Rattle.cells.specs.Memory.{Tables, tablesOf}
 use Rattle.tables.specs.Cellwise.{cellAddress, repainted}
 use Rattle.tables.specs.Changes.{openedAt, left, leaves}
 use Rattle.tables.specs.inner.Ready.{Openable, Closable}
 use Rattle.tables.specs.inner.Ranges.{InSegment, PrefixRun, RunChanged, twoValues}
-use Rattle.tables.proofs.Changes.{tablesOf, left-is}
+use Rattle.tables.proofs.Changes.{left-is}
 use Rattle.tables.proofs.Filling.{length-filled, filled-then}
 use Rattle.tables.proofs.Repaints.{run-tables}
 

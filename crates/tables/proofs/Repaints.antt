@@ -15,12 +15,12 @@ use Rattle.prefix.specs.declared.geometry.Blocks.{Blocks}
 use Rattle.prefix.specs.Geometry.{width, blockSize, blockStart, blockOf, blocks, touched}
 use Rattle.prefix.proofs.Spans as spans
 use Rattle.cells.specs.Cells.{pointTo}
-use Rattle.cells.specs.Memory.{Tables}
+use Rattle.cells.specs.Memory.{Tables, tablesOf}
 use Rattle.tables.specs.Cellwise.{cellAddress, repainted}
 use Rattle.tables.specs.Changes.{left, leaves}
 use Rattle.tables.specs.inner.Ready.{Points, segmentAt, Owns, Ready, Repaintable, Closable}
 use Rattle.tables.specs.inner.Ranges.{inRange, Within, PrefixRun, RunChanged, BlocksReady, BlocksChanged}
-use Rattle.tables.proofs.Changes.{tablesOf, tables-are, left-is}
+use Rattle.tables.proofs.Changes.{tables-are, left-is}
 use Rattle.tables.proofs.Ranges.{inRange?}
 use Rattle.tables.proofs.Blocks.{segment-within, run-addressed}
 use Rattle.tables.proofs.Segments.{Open, directAmong?, openAmong?, directIn?, openIn?}

@@ -15,14 +15,13 @@ use Rattle.prefix.specs.declared.Prefix.{Prefix}
 use Rattle.prefix.specs.Geometry.{blockStart}
 use Rattle.prefix.specs.Routes.{Route, best}
 use Rattle.cells.specs.Cells.{empty, lengthOf, pointerBit, cellOf}
-use Rattle.cells.specs.Memory.{Tables}
+use Rattle.cells.specs.Memory.{Tables, tablesOf}
 use Rattle.rules.specs.Rules.{routes}
 use Rattle.runs.specs.declared.Run.{Run}
 use Rattle.runs.specs.inner.Kept.{Kept}
 use Rattle.tables.specs.Cellwise.{unpaintCell}
 use Rattle.tables.specs.inner.Ranges.{RunChanged, BlocksChanged}
 use Rattle.tables.specs.inner.Unpaint.{stays, replaced, Skipped, Closed, SkippedClosed}
-use Rattle.tables.proofs.Changes.{tablesOf}
 use Rattle.tables.proofs.Ranges.{inRange?, run-length, run-cong, run-then, Reached}
 use Rattle.tables.proofs.Segments.{directAmong?, openAmong?}
 use Rattle.tables.proofs.Blocks.{blocks-then}

@@ -126,7 +126,8 @@ fn unpaint_run(
     requires { ⌜ Within from to (now cells) ⌝ }
     requires { ⌜ start + (to - from) ≤ 2 ^ 32 ⌝ }
     requires { ⌜ Asking (now rules) live start run ⌝ }
-    ensures { λ r. ⌜ RunUnpainted length (now (rules .entry)) live start from to (now (cells .entry)) (now (cells .exit)) (r .changed) (r .run) ⌝ }
+    ensures { λ r. ⌜ RunUnpainted length (now (rules .entry)) live start from to (now (cells .entry)) (now (cells .exit))
+        (r .changed) (r .run) ⌝ }
 {
     let mut changed: u32 = 0;
     let mut kept = run;

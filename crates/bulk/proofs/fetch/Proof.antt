@@ -18,12 +18,6 @@ abbrev μ-loop : tie.MeasureT-loop
 loop-holds : tie.Need-loop-holds Inv-loop μ-loop
 loop-holds c = pass-none
 
-mul-answers : tie.Need-mul-answers Inv-loop μ-loop
-mul-answers c = search needs
-
-slice-read-answers : tie.Need-slice-read-answers Inv-loop μ-loop
-slice-read-answers c = search needs
-
 cast-answers : tie.Need-cast-answers Inv-loop μ-loop
 cast-answers c = omega (arith, c .slice-known .given (c .before .before .loop .i))
 
@@ -35,23 +29,8 @@ shared-slice-read-answers c =
     let inv = c .before .before .before .loop .inv in
     omega (arith, pass-left inv, c .before .before .before .before .pre (c .before .before .before .loop .i) (omega arith))
 
-mul-answers-3 : tie.Need-mul-answers-3 Inv-loop μ-loop
-mul-answers-3 c = search needs
-
-slice-write-answers : tie.Need-slice-write-answers Inv-loop μ-loop
-slice-write-answers c = search needs
-
-add-i : tie.Need-add-i Inv-loop μ-loop
-add-i c = search needs
-
-loop-less : tie.Need-loop-less Inv-loop μ-loop
-loop-less c = search needs
-
 loop-again : tie.Need-loop-again Inv-loop μ-loop
 loop-again c = pass-more (c .before .before .before .loop .inv) refl
-
-same-length : tie.Need-same-length Inv-loop μ-loop
-same-length c = search needs
 
 returns : tie.Need-returns Inv-loop μ-loop
 returns c = pass-all (c .before .loop .inv) (omega arith)
@@ -63,15 +42,15 @@ fetch-spec =
     Inv-loop
     μ-loop
     loop-holds
-    mul-answers
-    slice-read-answers
+    (λ c. search needs)
+    (λ c. search needs)
     cast-answers
     mul-answers-2
     shared-slice-read-answers
-    mul-answers-3
-    slice-write-answers
-    add-i
-    loop-less
+    (λ c. search needs)
+    (λ c. search needs)
+    (λ c. search needs)
+    (λ c. search needs)
     loop-again
-    same-length
+    (λ c. search needs)
     returns)

@@ -7,12 +7,6 @@ use borrow.Author.Needs.{needs}
 use Rattle.bulk.proofs.judge.Statement.{statement}
 use Rattle.bulk.proofs.judge.Tie as tie
 
-said-or-pointer-requires : tie.Need-said-or-pointer-requires
-said-or-pointer-requires c κs = search needs
-
-block-requires : tie.Need-block-requires
-block-requires c κs = search needs
-
 returns : tie.Need-returns
 unfolding judged
 returns c =
@@ -28,4 +22,4 @@ returns-2 c =
 
 pub judge-spec : {M : Type 1} → statement M
 judge-spec =
-    tie.close (tie.spec said-or-pointer-requires block-requires returns returns-2)
+    tie.close (tie.spec (λ c κs. search needs) (λ c κs. search needs) returns returns-2)

@@ -17,38 +17,8 @@ abbrev μ-loop : tie.MeasureT-loop
 loop-holds : tie.Need-loop-holds Inv-loop μ-loop
 loop-holds c = pass-none
 
-mul-judge : tie.Need-mul-judge Inv-loop μ-loop
-mul-judge c = search needs
-
-shared-slice-read-judge : tie.Need-shared-slice-read-judge Inv-loop μ-loop
-shared-slice-read-judge c = search needs
-
-mul-judge-2 : tie.Need-mul-judge-2 Inv-loop μ-loop
-mul-judge-2 c = search needs
-
-slice-read-judge : tie.Need-slice-read-judge Inv-loop μ-loop
-slice-read-judge c = search needs
-
-judge-requires : tie.Need-judge-requires Inv-loop μ-loop
-judge-requires c κs = search needs
-
-mul-answers : tie.Need-mul-answers Inv-loop μ-loop
-mul-answers c = search needs
-
-slice-write-answers : tie.Need-slice-write-answers Inv-loop μ-loop
-slice-write-answers c = search needs
-
-add-i : tie.Need-add-i Inv-loop μ-loop
-add-i c = search needs
-
-loop-less : tie.Need-loop-less Inv-loop μ-loop
-loop-less c = search needs
-
 loop-again : tie.Need-loop-again Inv-loop μ-loop
 loop-again c = pass-more (c .before .before .before .before .loop .inv) (c .judge .ensures)
-
-same-length : tie.Need-same-length Inv-loop μ-loop
-same-length c = search needs
 
 returns : tie.Need-returns Inv-loop μ-loop
 returns c = pass-all (c .before .loop .inv) (omega arith)
@@ -60,15 +30,15 @@ judge-all-spec =
     Inv-loop
     μ-loop
     loop-holds
-    mul-judge
-    shared-slice-read-judge
-    mul-judge-2
-    slice-read-judge
-    judge-requires
-    mul-answers
-    slice-write-answers
-    add-i
-    loop-less
+    (λ c. search needs)
+    (λ c. search needs)
+    (λ c. search needs)
+    (λ c. search needs)
+    (λ c κs. search needs)
+    (λ c. search needs)
+    (λ c. search needs)
+    (λ c. search needs)
+    (λ c. search needs)
     loop-again
-    same-length
+    (λ c. search needs)
     returns)

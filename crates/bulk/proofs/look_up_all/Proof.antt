@@ -11,9 +11,6 @@ use borrow.Author.Needs.{needs}
 use Rattle.bulk.proofs.look_up_all.Statement.{statement}
 use Rattle.bulk.proofs.look_up_all.Tie as tie
 
-standing-requires : tie.Need-standing-requires
-standing-requires c κs = search needs
-
 returns : tie.Need-returns
 returns c =
     let s = c .before .before .before .before .before .before .args in
@@ -40,23 +37,11 @@ cast-blocks c =
     let s = c .before .before .before .before .before .before .before .args in
     omega (arith, may-read (c .before) .a-cell-a-block, few-blocks (s .territory))
 
-places-requires : tie.Need-places-requires
-places-requires c κs = search needs
-
 fetch-requires : tie.Need-fetch-requires
 fetch-requires c κs =
     let s = c .before .before .before .before .before .before .before .before .before .before .before .before .args in
     places-lent (now (s .first)) (now (s .long)) (s .territory) (now (s .addresses)) (now (s .answers))
     (may-read (c .before .before .before .before .before .before)) (c .before .before .before .places .ensures)
-
-judge-all-requires : tie.Need-judge-all-requires
-judge-all-requires c κs = search needs
-
-settle-all-requires : tie.Need-settle-all-requires
-settle-all-requires c κs = search needs
-
-same-length : tie.Need-same-length
-same-length c = search needs
 
 returns-3 : tie.Need-returns-3
 returns-3 c =
@@ -79,13 +64,13 @@ pub look-up-all-spec : {M : Type 1} → statement M
 look-up-all-spec =
     tie.close
     (tie.spec
-    standing-requires
+    (λ c κs. search needs)
     returns
     returns-2
     cast-blocks
-    places-requires
+    (λ c κs. search needs)
     fetch-requires
-    judge-all-requires
-    settle-all-requires
-    same-length
+    (λ c κs. search needs)
+    (λ c κs. search needs)
+    (λ c. search needs)
     returns-3)

@@ -7,9 +7,6 @@ use borrow.Author.Needs.{needs}
 use Rattle.bulk.proofs.place.Statement.{statement}
 use Rattle.bulk.proofs.place.Tie as tie
 
-block-requires : tie.Need-block-requires
-block-requires c κs = search needs
-
 returns : tie.Need-returns
 unfolding placeOf
 returns c =
@@ -23,4 +20,4 @@ returns-2 c =
     sym (cond-off _ _ (ltb? (blockFrom (s .base) (s .address)) (s .blocks)) (λ l. omega arith))
 
 pub place-spec : {M : Type 1} → statement M
-place-spec = tie.close (tie.spec block-requires returns returns-2)
+place-spec = tie.close (tie.spec (λ c κs. search needs) returns returns-2)

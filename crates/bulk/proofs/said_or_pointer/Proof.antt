@@ -7,12 +7,6 @@ use borrow.Author.Needs.{needs}
 use Rattle.bulk.proofs.said_or_pointer.Statement.{statement}
 use Rattle.bulk.proofs.said_or_pointer.Tie as tie
 
-verdict-requires : tie.Need-verdict-requires
-verdict-requires c κs = search needs
-
-is-pointer-requires : tie.Need-is-pointer-requires
-is-pointer-requires c κs = search needs
-
 returns : tie.Need-returns
 unfolding saidOrPointer
 returns c =
@@ -26,4 +20,4 @@ returns-2 c =
     c .before .before .verdict .ensures ∙ sym (cond-off _ _ pointer (denies pointer (sym (c .before .is-pointer .ensures) ∙ c .if1 .left)))
 
 pub said-or-pointer-spec : {M : Type 1} → statement M
-said-or-pointer-spec = tie.close (tie.spec verdict-requires is-pointer-requires returns returns-2)
+said-or-pointer-spec = tie.close (tie.spec (λ c κs. search needs) (λ c κs. search needs) returns returns-2)

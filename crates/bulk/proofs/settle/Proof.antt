@@ -12,20 +12,11 @@ use borrow.Author.Needs.{needs}
 use Rattle.bulk.proofs.settle.Statement.{statement}
 use Rattle.bulk.proofs.settle.Tie as tie
 
-is-pointer-requires : tie.Need-is-pointer-requires
-is-pointer-requires c κs = search needs
-
 returns : tie.Need-returns
 unfolding settled
 returns c =
     let pointer = leb? pointerBit (c .before .before .before .args .word) in
     sym (cond-off _ _ pointer (if-not pointer (c .before .is-pointer .ensures) (c .if1 .taken)))
-
-cast-says : tie.Need-cast-says
-cast-says c = search needs
-
-says-requires : tie.Need-says-requires
-says-requires c κs = search needs
 
 returns-2 : tie.Need-returns-2
 unfolding settled
@@ -36,4 +27,4 @@ returns-2 c =
     ∙ sym (cond-on _ _ pointer (if-so pointer (c .before .before .is-pointer .ensures) (c .before .if1 .left)))
 
 pub settle-spec : {M : Type 1} → statement M
-settle-spec = tie.close (tie.spec is-pointer-requires returns cast-says says-requires returns-2)
+settle-spec = tie.close (tie.spec (λ c κs. search needs) returns (λ c. search needs) (λ c κs. search needs) returns-2)

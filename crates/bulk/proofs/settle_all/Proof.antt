@@ -23,38 +23,8 @@ starts {f} {xs} e = subst (λ (k : ℕ). Passed f xs k xs) (sym e) pass-none
 loop-holds : tie.Need-loop-holds Inv-loop μ-loop
 loop-holds c = starts (omega arith)
 
-mul-settle : tie.Need-mul-settle Inv-loop μ-loop
-mul-settle c = search needs
-
-shared-slice-read-settle : tie.Need-shared-slice-read-settle Inv-loop μ-loop
-shared-slice-read-settle c = search needs
-
-mul-settle-2 : tie.Need-mul-settle-2 Inv-loop μ-loop
-mul-settle-2 c = search needs
-
-slice-read-settle : tie.Need-slice-read-settle Inv-loop μ-loop
-slice-read-settle c = search needs
-
-settle-requires : tie.Need-settle-requires Inv-loop μ-loop
-settle-requires c κs = search needs
-
-mul-answers : tie.Need-mul-answers Inv-loop μ-loop
-mul-answers c = search needs
-
-slice-write-answers : tie.Need-slice-write-answers Inv-loop μ-loop
-slice-write-answers c = search needs
-
-add-done : tie.Need-add-done Inv-loop μ-loop
-add-done c = search needs
-
-loop-less : tie.Need-loop-less Inv-loop μ-loop
-loop-less c = search needs
-
 loop-again : tie.Need-loop-again Inv-loop μ-loop
 loop-again c = pass-more (c .before .before .before .before .loop .inv) (c .settle .ensures)
-
-same-length : tie.Need-same-length Inv-loop μ-loop
-same-length c = search needs
 
 returns : tie.Need-returns Inv-loop μ-loop
 returns c = pass-all (c .before .loop .inv) (omega arith)
@@ -66,15 +36,15 @@ settle-all-spec =
     Inv-loop
     μ-loop
     loop-holds
-    mul-settle
-    shared-slice-read-settle
-    mul-settle-2
-    slice-read-settle
-    settle-requires
-    mul-answers
-    slice-write-answers
-    add-done
-    loop-less
+    (λ c. search needs)
+    (λ c. search needs)
+    (λ c. search needs)
+    (λ c. search needs)
+    (λ c κs. search needs)
+    (λ c. search needs)
+    (λ c. search needs)
+    (λ c. search needs)
+    (λ c. search needs)
     loop-again
-    same-length
+    (λ c. search needs)
     returns)

@@ -13,15 +13,9 @@ returns c =
     let s = c .before .before .before .before .args in
     wrong-words (now (s .first)) (now (s .long)) (s .territory) (s .address) (s .amount) (now (s .octets)) (λ e. omega (arith, c .if1 .taken))
 
-look-up-requires : tie.Need-look-up-requires
-look-up-requires c κs = search needs
-
 enter-requires : tie.Need-enter-requires
 enter-requires c κs =
     (omega (arith, c .before .before .if1 .left), omega (arith, subst Told (sym (c .look-up .ensures)) (told-look _ _ _ _) .hop))
-
-same-length : tie.Need-same-length
-same-length c = search needs
 
 returns-2 : tie.Need-returns-2
 returns-2 c =
@@ -31,4 +25,4 @@ returns-2 c =
     (c .before .before .before .look-up .ensures) (c .before .before .enter .ensures)
 
 pub book-spec : {M : Type 1} → statement M
-book-spec = tie.close (tie.spec returns look-up-requires enter-requires same-length returns-2)
+book-spec = tie.close (tie.spec returns (λ c κs. search needs) enter-requires (λ c. search needs) returns-2)

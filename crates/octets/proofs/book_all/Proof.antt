@@ -23,12 +23,6 @@ returns-2 c =
     refused-whole (now (s .first)) (now (s .long)) (s .territory) (now (s .addresses)) (now (s .amounts)) (now (s .codes)) (now (s .octets))
     (λ a. omega (arith, a .0 .1, c .if2 .taken)) refl
 
-look-up-all-requires : tie.Need-look-up-all-requires
-look-up-all-requires c κs = search needs
-
-same-length : tie.Need-same-length
-same-length c = search needs
-
 returns-3 : tie.Need-returns-3
 returns-3 c =
     let s = c .before .before .before .before .before .before .before .before .before .before .before .before .before .args in
@@ -43,12 +37,6 @@ enter-all-requires c κs =
     let said = c .before .before .before .before .before .look-up-all .ensures in
     let yes = has-answered (now (s .first)) (now (s .long)) (s .territory) (now (s .addresses)) (now (s .codes)) said (omega arith) in
     ((omega arith, omega (arith, yes .0 .1)), hops-small (now (s .first)) (now (s .long)) (s .territory) (now (s .addresses)) _ (yes .1))
-
-same-length-2 : tie.Need-same-length-2
-same-length-2 c = search needs
-
-same-length-3 : tie.Need-same-length-3
-same-length-3 c = search needs
 
 returns-4 : tie.Need-returns-4
 returns-4 c =
@@ -66,10 +54,10 @@ book-all-spec =
     (tie.spec
     returns
     returns-2
-    look-up-all-requires
-    same-length
+    (λ c κs. search needs)
+    (λ c. search needs)
     returns-3
     enter-all-requires
-    same-length-2
-    same-length-3
+    (λ c. search needs)
+    (λ c. search needs)
     returns-4)

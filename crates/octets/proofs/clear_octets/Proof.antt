@@ -23,18 +23,6 @@ returns c = not-cleared (c .before .args .octets .now) (λ e. omega (arith, c .i
 loop-holds : tie.Need-loop-holds Inv-loop μ-loop
 loop-holds c = (omega arith, (refl, refl))
 
-mul-octets : tie.Need-mul-octets Inv-loop μ-loop
-mul-octets c = search needs
-
-slice-write-octets : tie.Need-slice-write-octets Inv-loop μ-loop
-slice-write-octets c = search needs
-
-add-i : tie.Need-add-i Inv-loop μ-loop
-add-i c = search needs
-
-loop-less : tie.Need-loop-less Inv-loop μ-loop
-loop-less c = search needs
-
 loop-again : tie.Need-loop-again Inv-loop μ-loop
 loop-again c =
     let inv = c .before .loop .inv in (
@@ -63,10 +51,10 @@ clear-octets-spec =
     μ-loop
     returns
     loop-holds
-    mul-octets
-    slice-write-octets
-    add-i
-    loop-less
+    (λ c. search needs)
+    (λ c. search needs)
+    (λ c. search needs)
+    (λ c. search needs)
     loop-again
     same-length
     returns-2)

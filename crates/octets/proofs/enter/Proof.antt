@@ -8,22 +8,10 @@ use borrow.Author.Needs.{needs}
 use Rattle.octets.proofs.enter.Statement.{statement}
 use Rattle.octets.proofs.enter.Tie as tie
 
-refusal-requires : tie.Need-refusal-requires
-refusal-requires c κs = search needs
-
 returns : tie.Need-returns
 returns c =
     let s = c .before .before .before .args in
     turned-away (s .answer) (s .amount) (now (s .octets)) (c .before .refusal .ensures) (λ z. omega (arith, c .if1 .taken))
-
-cast-hop : tie.Need-cast-hop
-cast-hop c = search needs
-
-mul-word : tie.Need-mul-word
-mul-word c = search needs
-
-slice-read-word : tie.Need-slice-read-word
-slice-read-word c = search needs
 
 returns-2 : tie.Need-returns-2
 returns-2 c =
@@ -42,15 +30,6 @@ returns-3 c =
 add-octets : tie.Need-add-octets
 add-octets c = omega arith
 
-mul-octets : tie.Need-mul-octets
-mul-octets c = search needs
-
-slice-write-octets : tie.Need-slice-write-octets
-slice-write-octets c = search needs
-
-same-length : tie.Need-same-length
-same-length c = search needs
-
 returns-4 : tie.Need-returns-4
 returns-4 c =
     let k = c .before .before .before .before .before in
@@ -62,15 +41,15 @@ pub enter-spec : {M : Type 1} → statement M
 enter-spec =
     tie.close
     (tie.spec
-    refusal-requires
+    (λ c κs. search needs)
     returns
-    cast-hop
-    mul-word
-    slice-read-word
+    (λ c. search needs)
+    (λ c. search needs)
+    (λ c. search needs)
     returns-2
     returns-3
     add-octets
-    mul-octets
-    slice-write-octets
-    same-length
+    (λ c. search needs)
+    (λ c. search needs)
+    (λ c. search needs)
     returns-4)

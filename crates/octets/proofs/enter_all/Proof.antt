@@ -22,21 +22,6 @@ abbrev μ-loop : tie.MeasureT-loop
 loop-holds : tie.Need-loop-holds Inv-loop μ-loop
 loop-holds c = (omega arith, going-none)
 
-mul-unpack : tie.Need-mul-unpack Inv-loop μ-loop
-mul-unpack c = search needs
-
-slice-read-unpack : tie.Need-slice-read-unpack Inv-loop μ-loop
-slice-read-unpack c = search needs
-
-unpack-requires : tie.Need-unpack-requires Inv-loop μ-loop
-unpack-requires c κs = search needs
-
-mul-enter : tie.Need-mul-enter Inv-loop μ-loop
-mul-enter c = search needs
-
-shared-slice-read-enter : tie.Need-shared-slice-read-enter Inv-loop μ-loop
-shared-slice-read-enter c = search needs
-
 enter-requires : tie.Need-enter-requires Inv-loop μ-loop
 enter-requires c κs =
     let turn = c .before .before .before .before .before in
@@ -44,18 +29,6 @@ enter-requires c κs =
     let hop = ap (λ (r : Answer). r .hop) (c .before .unpack .ensures) in
     let here : turn .loop .i < length (turn .before .before .before .before .args .codes .now) = omega (arith, turn .loop .inv .1 .long) in
     (turn .loop .inv .0, omega (arith, hop, going-at (turn .loop .inv .1) here, pre .1 (turn .loop .i) here))
-
-mul-codes : tie.Need-mul-codes Inv-loop μ-loop
-mul-codes c = search needs
-
-slice-write-codes : tie.Need-slice-write-codes Inv-loop μ-loop
-slice-write-codes c = search needs
-
-add-i : tie.Need-add-i Inv-loop μ-loop
-add-i c = search needs
-
-loop-less : tie.Need-loop-less Inv-loop μ-loop
-loop-less c = search needs
 
 loop-again : tie.Need-loop-again Inv-loop μ-loop
 loop-again c =
@@ -86,16 +59,16 @@ enter-all-spec =
     Inv-loop
     μ-loop
     loop-holds
-    mul-unpack
-    slice-read-unpack
-    unpack-requires
-    mul-enter
-    shared-slice-read-enter
+    (λ c. search needs)
+    (λ c. search needs)
+    (λ c κs. search needs)
+    (λ c. search needs)
+    (λ c. search needs)
     enter-requires
-    mul-codes
-    slice-write-codes
-    add-i
-    loop-less
+    (λ c. search needs)
+    (λ c. search needs)
+    (λ c. search needs)
+    (λ c. search needs)
     loop-again
     same-length
     same-length-2

@@ -8,18 +8,9 @@ use Rattle.records.proofs.Laws.{other-kind, other-serial, hop-astray, n
 use Rattle.records.proofs.judge.Statement.{statement}
 use Rattle.records.proofs.judge.Tie as tie
 
-is-known-requires : tie.Need-is-known-requires
-is-known-requires c κs = search needs
-
-has-stray-hop-requires : tie.Need-has-stray-hop-requires
-has-stray-hop-requires c κs = search needs
-
 -- the hop tested is the update's
 hop-tested : (c : tie.After-has-stray-hop) → let s = c .before .before .before .args in c .has-stray-hop .result ≡ strayHop (s .update .kind) (s .update .hop)
 hop-tested c = c .has-stray-hop .ensures
-
-refused-requires : tie.Need-refused-requires
-refused-requires c κs = search needs
 
 returns : tie.Need-returns
 returns c =
@@ -28,9 +19,6 @@ returns c =
     let unknown : not (known (s .update .kind)) ≡ true = cc (k .is-known .ensures, c .before .if1 .taken) in
     c .refused .ensures ∙ other-kind (s .update) (s .expected) unknown
 
-refused-requires-2 : tie.Need-refused-requires-2
-refused-requires-2 c κs = search needs
-
 returns-2 : tie.Need-returns-2
 returns-2 c =
     let k = c .before .before .before .before .before in
@@ -38,9 +26,6 @@ returns-2 c =
     let kind : not (known (s .update .kind)) ≡ false = cc (k .is-known .ensures, c .before .before .if1 .left) in
     let serial : not (eqb (s .update .serial) (s .expected)) ≡ true = cc (c .before .if2 .taken) in
     c .refused2 .ensures ∙ other-serial (s .update) (s .expected) kind serial
-
-refused-requires-3 : tie.Need-refused-requires-3
-refused-requires-3 c κs = search needs
 
 returns-3 : tie.Need-returns-3
 returns-3 c =
@@ -64,12 +49,12 @@ pub judge-spec : {M : Type 1} → statement M
 judge-spec =
     tie.close
     (tie.spec
-    is-known-requires
-    has-stray-hop-requires
-    refused-requires
+    (λ c κs. search needs)
+    (λ c κs. search needs)
+    (λ c κs. search needs)
     returns
-    refused-requires-2
+    (λ c κs. search needs)
     returns-2
-    refused-requires-3
+    (λ c κs. search needs)
     returns-3
     returns-4)

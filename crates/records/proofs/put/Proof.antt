@@ -9,12 +9,6 @@ use Rattle.records.proofs.Laws.{by-bytes, stored}
 use Rattle.records.proofs.put.Statement.{statement}
 use Rattle.records.proofs.put.Tie as tie
 
-put-u16-requires : tie.Need-put-u16-requires
-put-u16-requires c κs = search needs
-
-slice-write-room : tie.Need-slice-write-room
-slice-write-room c = search needs
-
 slice-write-room-2 : tie.Need-slice-write-room-2
 slice-write-room-2 c = simp length-set (omega arith)
 
@@ -69,8 +63,8 @@ pub put-spec : {M : Type 1} → statement M
 put-spec =
     tie.close
     (tie.spec
-    put-u16-requires
-    slice-write-room
+    (λ c κs. search needs)
+    (λ c. search needs)
     slice-write-room-2
     put-u32-requires
     put-u32-requires-2

@@ -11,29 +11,17 @@ use Rattle.records.proofs.write.Tie as tie
 returns : tie.Need-returns
 returns c = let s = c .before .before .args in no-room (now (s .room)) (s .update) (omega arith)
 
-is-known-requires : tie.Need-is-known-requires
-is-known-requires c κs = search needs
-
 returns-2 : tie.Need-returns-2
 returns-2 c =
     let s = c .before .before .before .before .args in
     let k = c .before .is-known .ensures in
     no-kind (now (s .room)) (s .update) (omega arith) (sym (ap not k) ∙ c .if2 .taken)
 
-has-stray-hop-requires : tie.Need-has-stray-hop-requires
-has-stray-hop-requires c κs = search needs
-
 returns-3 : tie.Need-returns-3
 returns-3 c =
     let s = c .before .before .before .before .before .before .args in
     let k = c .before .before .before .is-known .ensures in
     stray-hop (now (s .room)) (s .update) (omega arith) (sym (ap not k) ∙ c .before .before .if2 .left) (sym (c .before .has-stray-hop .ensures) ∙ c .if3 .taken)
-
-put-requires : tie.Need-put-requires
-put-requires c κs = search needs
-
-same-length : tie.Need-same-length
-same-length c = search needs
 
 returns-4 : tie.Need-returns-4
 returns-4 c =
@@ -48,10 +36,10 @@ write-spec =
     tie.close
     (tie.spec
     returns
-    is-known-requires
+    (λ c κs. search needs)
     returns-2
-    has-stray-hop-requires
+    (λ c κs. search needs)
     returns-3
-    put-requires
-    same-length
+    (λ c κs. search needs)
+    (λ c. search needs)
     returns-4)

@@ -17,17 +17,11 @@ use Rattle.runs.proofs.is_settled.Tie as tie
 returns : tie.Need-returns
 returns c = let s = c .before .before .args in sym (passes (settled? (s .rules .now) (s .address) (s .i)) (inl (c .if1 .taken)))
 
-sub-word : tie.Need-sub-word
-sub-word c = search needs
-
 mul-word : tie.Need-mul-word
 mul-word c = omega (arith, listed-within (c .before .before .pre .0))
 
 shared-slice-read-word : tie.Need-shared-slice-read-word
 shared-slice-read-word c = omega (arith, listed-within (c .before .before .before .pre .0))
-
-prefix-requires : tie.Need-prefix-requires
-prefix-requires c κs = search needs
 
 contains-requires : tie.Need-contains-requires
 contains-requires c κs =
@@ -46,9 +40,9 @@ is-settled-spec =
     tie.close
     (tie.spec
     returns
-    sub-word
+    (λ c. search needs)
     mul-word
     shared-slice-read-word
-    prefix-requires
+    (λ c κs. search needs)
     contains-requires
     returns-2)

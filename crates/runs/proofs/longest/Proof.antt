@@ -7,23 +7,11 @@ use Rattle.runs.proofs.Covered.{run-none, run-found}
 use Rattle.runs.proofs.longest.Statement.{statement}
 use Rattle.runs.proofs.longest.Tie as tie
 
-up-to-requires : tie.Need-up-to-requires
-up-to-requires c κs = search needs
-
-next-requires : tie.Need-next-requires
-next-requires c κs = search needs
-
-climb-requires : tie.Need-climb-requires
-climb-requires c κs = search needs
-
 returns : tie.Need-returns
 returns c =
     let s = c .before .before .before .before .before in
     run-none (s .args .address) (s .pre) (c .before .before .before .up-to .ensures) (c .before .before .next .ensures) (s .fits .address .fits)
     (c .before .climb .ensures .none (c .if1 .taken))
-
-sub-run-of : tie.Need-sub-run-of
-sub-run-of c = search needs
 
 mul-run-of : tie.Need-mul-run-of
 mul-run-of c = omega (arith, listed-within (c .before .before .before .before .before .pre), c .before .climb .ensures .within)
@@ -47,11 +35,11 @@ pub longest-spec : {M : Type 1} → statement M
 longest-spec =
     tie.close
     (tie.spec
-    up-to-requires
-    next-requires
-    climb-requires
+    (λ c κs. search needs)
+    (λ c κs. search needs)
+    (λ c κs. search needs)
     returns
-    sub-run-of
+    (λ c. search needs)
     mul-run-of
     shared-slice-read-run-of
     run-of-requires

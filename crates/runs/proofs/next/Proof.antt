@@ -20,12 +20,6 @@ mul-address c = omega (arith, listed-within (c .before .before .pre .0), c .befo
 shared-slice-read-address : tie.Need-shared-slice-read-address
 shared-slice-read-address c = omega (arith, listed-within (c .before .before .before .pre .0), c .before .before .before .pre .1 .within)
 
-address-requires : tie.Need-address-requires
-address-requires c κs = search needs
-
-cast-result : tie.Need-cast-result
-cast-result c = search needs
-
 returns-2 : tie.Need-returns-2
 returns-2 c =
     let s = c .before .before .before .before in
@@ -34,4 +28,4 @@ returns-2 c =
 pub next-spec : {M : Type 1} → statement M
 next-spec =
     tie.close
-    (tie.spec returns mul-address shared-slice-read-address address-requires cast-result returns-2)
+    (tie.spec returns mul-address shared-slice-read-address (λ c κs. search needs) (λ c. search needs) returns-2)

@@ -9,29 +9,8 @@ use Rattle.cells.specs.Cells.{pack}
 use Rattle.runs.proofs.run_of.Statement.{statement}
 use Rattle.runs.proofs.run_of.Tie as tie
 
-length-requires : tie.Need-length-requires
-length-requires c κs = search needs
-
-address-requires : tie.Need-address-requires
-address-requires c κs = search needs
-
-cast-until : tie.Need-cast-until
-cast-until c = search needs
-
-span-of-requires : tie.Need-span-of-requires
-span-of-requires c κs = search needs
-
 add-until : tie.Need-add-until
 add-until c = omega (arith, c .span-of .ensures, span-fits (c .before .before .length .result))
-
-hop-requires : tie.Need-hop-requires
-hop-requires c κs = search needs
-
-pack-requires : tie.Need-pack-requires
-pack-requires c κs = search needs
-
-lower-requires : tie.Need-lower-requires
-lower-requires c κs = search needs
 
 returns : tie.Need-returns
 returns c =
@@ -47,12 +26,12 @@ pub run-of-spec : {M : Type 1} → statement M
 run-of-spec =
     tie.close
     (tie.spec
-    length-requires
-    address-requires
-    cast-until
-    span-of-requires
+    (λ c κs. search needs)
+    (λ c κs. search needs)
+    (λ c. search needs)
+    (λ c κs. search needs)
     add-until
-    hop-requires
-    pack-requires
-    lower-requires
+    (λ c κs. search needs)
+    (λ c κs. search needs)
+    (λ c κs. search needs)
     returns)

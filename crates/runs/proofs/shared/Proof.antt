@@ -16,9 +16,6 @@ returns c =
       largest = λ k low high. apart-from (a .address) (a .other) (s .fits .address .fits) (s .fits .other .fits) k low (omega arith);
     }
 
-sub-result : tie.Need-sub-result
-sub-result c = search needs
-
 returns-2 : tie.Need-returns-2
 returns-2 c =
     let s = c .before in
@@ -30,4 +27,4 @@ returns-2 c =
     }
 
 pub shared-spec : {M : Type 1} → statement M
-shared-spec = tie.close (tie.spec returns sub-result returns-2)
+shared-spec = tie.close (tie.spec returns (λ c. search needs) returns-2)

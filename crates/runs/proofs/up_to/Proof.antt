@@ -14,20 +14,11 @@ use Rattle.runs.proofs.up_to.Tie as tie
 at-key : {ws : List ℕ} {n k m at : ℕ} → PositionIs ws n k at → k ≡ m → PositionIs ws n m at
 at-key {ws} {n} {at = at} q e = subst (λ (k : ℕ). PositionIs ws n k at) e q
 
-cleared-requires : tie.Need-cleared-requires
-cleared-requires c κs = search needs
-
-key-of-requires : tie.Need-key-of-requires
-key-of-requires c κs = search needs
-
 add-position : tie.Need-add-position
 add-position c =
     let s = c .before .before .before in
     let at = c .before .cleared in
     omega (arith, c .key-of .ensures, key-room (record { address = at .result; length = s .args .length }) (s .pre .1) (omega (arith, at .ok)))
-
-position-requires : tie.Need-position-requires
-position-requires c κs = search needs
 
 returns : tie.Need-returns
 returns c =
@@ -37,4 +28,4 @@ returns c =
 
 pub up-to-spec : {M : Type 1} → statement M
 up-to-spec =
-    tie.close (tie.spec cleared-requires key-of-requires add-position position-requires returns)
+    tie.close (tie.spec (λ c κs. search needs) (λ c κs. search needs) add-position (λ c κs. search needs) returns)

@@ -14,30 +14,12 @@ at-entry s = lent (s .args .first) (s .args .long) (s .args .owners) (s .args .r
 abbrev start : tie.After-read → tie.Start
 start c = c .before .before .before .before .before .before
 
-read-requires : tie.Need-read-requires
-read-requires c κs = search needs
-
 returns : tie.Need-returns
 returns c =
     let k = c .before .before .before in
     let s = start k in
     let refused : ¬ (k .read .result .code ≡ 0) = omega (arith, c .if1 .taken) in
     turn-refused (s .args .territory) (s .args .bytes .now) (s .args .expected) (at-entry s) (k .read .ensures) refused
-
-take-update-requires : tie.Need-take-update-requires
-take-update-requires c κs = search needs
-
-same-length : tie.Need-same-length
-same-length c = search needs
-
-same-length-2 : tie.Need-same-length-2
-same-length-2 c = search needs
-
-same-length-3 : tie.Need-same-length-3
-same-length-3 c = search needs
-
-same-length-4 : tie.Need-same-length-4
-same-length-4 c = search needs
 
 returns-2 : tie.Need-returns-2
 returns-2 c =
@@ -52,11 +34,11 @@ pub take-record-spec : {M : Type 1} → statement M
 take-record-spec =
     tie.close
     (tie.spec
-    read-requires
+    (λ c κs. search needs)
     returns
-    take-update-requires
-    same-length
-    same-length-2
-    same-length-3
-    same-length-4
+    (λ c κs. search needs)
+    (λ c. search needs)
+    (λ c. search needs)
+    (λ c. search needs)
+    (λ c. search needs)
     returns-2)

@@ -22,45 +22,12 @@ abbrev μ-loop : tie.MeasureT-loop
 loop-holds : tie.Need-loop-holds Inv-loop μ-loop
 loop-holds c = (refl, refl, refl, refl, refl, going-start _ _ _ _ _)
 
-sub-take-record : tie.Need-sub-take-record Inv-loop μ-loop
-sub-take-record c = search needs
-
-part-take-record-start : tie.Need-part-take-record-start Inv-loop μ-loop
-part-take-record-start c = search needs
-
-part-take-record-end : tie.Need-part-take-record-end Inv-loop μ-loop
-part-take-record-end c = search needs
-
-take-record-requires : tie.Need-take-record-requires Inv-loop μ-loop
-take-record-requires c κs = search needs
-
-same-length : tie.Need-same-length Inv-loop μ-loop
-same-length c = search needs
-
-same-length-2 : tie.Need-same-length-2 Inv-loop μ-loop
-same-length-2 c = search needs
-
-same-length-3 : tie.Need-same-length-3 Inv-loop μ-loop
-same-length-3 c = search needs
-
-same-length-4 : tie.Need-same-length-4 Inv-loop μ-loop
-same-length-4 c = search needs
-
-same-length-5 : tie.Need-same-length-5 Inv-loop μ-loop
-same-length-5 c = search needs
-
 returns : tie.Need-returns Inv-loop μ-loop
 returns c =
     let k = c .before .before .before .before .before .before .before .before .before .before in
     let l = k .before .before .before .before .before .before .before in
     let refused : ¬ (k .take-record .result .code ≡ 0) = omega (arith, c .if1 .taken) in
     going-refused _ _ _ _ _ (l .loop .inv .5) (k .before .before .before .before .before .before .loop-test .taken) (k .take-record .ensures) refused (omega arith)
-
-put-line-requires : tie.Need-put-line-requires Inv-loop μ-loop
-put-line-requires c κs = search needs
-
-next-serial-requires : tie.Need-next-serial-requires Inv-loop μ-loop
-next-serial-requires c κs = search needs
 
 add-count : tie.Need-add-count Inv-loop μ-loop
 add-count c =
@@ -79,9 +46,6 @@ next-record c =
 add-at : tie.Need-add-at Inv-loop μ-loop
 add-at c = omega (arith, next-record c, c .before .before .before .before .before .before .before .before .before .before .before .before .before .before .before .before .before .before .before .before .before .before .before .before .before .before .before .before .before .good)
 
-loop-less : tie.Need-loop-less Inv-loop μ-loop
-loop-less c = search needs
-
 loop-again : tie.Need-loop-again Inv-loop μ-loop
 loop-again c =
     let p = c .before .before .before in
@@ -96,21 +60,6 @@ loop-again c =
       going-more _ _ _ _ _ (l .loop .inv .5) (k .take-record .ensures) zero (omega (arith, c .next-serial .ensures)) (p .put-line .ensures),
     )
 
-same-length-6 : tie.Need-same-length-6 Inv-loop μ-loop
-same-length-6 c = search needs
-
-same-length-7 : tie.Need-same-length-7 Inv-loop μ-loop
-same-length-7 c = search needs
-
-same-length-8 : tie.Need-same-length-8 Inv-loop μ-loop
-same-length-8 c = search needs
-
-same-length-9 : tie.Need-same-length-9 Inv-loop μ-loop
-same-length-9 c = search needs
-
-same-length-10 : tie.Need-same-length-10 Inv-loop μ-loop
-same-length-10 c = search needs
-
 returns-2 : tie.Need-returns-2 Inv-loop μ-loop
 returns-2 c = going-done _ _ _ _ _ (c .before .loop .inv .5) (c .loop-test .left)
 
@@ -121,25 +70,25 @@ take-records-spec =
     Inv-loop
     μ-loop
     loop-holds
-    sub-take-record
-    part-take-record-start
-    part-take-record-end
-    take-record-requires
-    same-length
-    same-length-2
-    same-length-3
-    same-length-4
-    same-length-5
+    (λ c. search needs)
+    (λ c. search needs)
+    (λ c. search needs)
+    (λ c κs. search needs)
+    (λ c. search needs)
+    (λ c. search needs)
+    (λ c. search needs)
+    (λ c. search needs)
+    (λ c. search needs)
     returns
-    put-line-requires
-    next-serial-requires
+    (λ c κs. search needs)
+    (λ c κs. search needs)
     add-count
     add-at
-    loop-less
+    (λ c. search needs)
     loop-again
-    same-length-6
-    same-length-7
-    same-length-8
-    same-length-9
-    same-length-10
+    (λ c. search needs)
+    (λ c. search needs)
+    (λ c. search needs)
+    (λ c. search needs)
+    (λ c. search needs)
     returns-2)

@@ -1,5 +1,5 @@
 -- `clear` meets its contract: a refusal writes nothing, and else each slice is set to 0. Assumes nothing.
-use mathlib.Core.Path.{_≡_, sym, _∙_}
+use mathlib.Core.Path.{_≡_}
 use Rattle.cells.specs.Memory.{Lent, lent}
 use Rattle.updates.specs.Effects.{cleared}
 use Rattle.updates.proofs.Outcomes.{clear-refused, clear-accepted}
@@ -15,51 +15,12 @@ at-entry s = lent (s .args .first) (s .args .long) (s .args .owners) (s .args .r
 abbrev start : tie.After-clear-checked → tie.Start
 start c = c .before .before .before .before .before .before .before .before .before
 
-clear-checked-requires : tie.Need-clear-checked-requires
-clear-checked-requires c κs = search needs
-
-same-length : tie.Need-same-length
-same-length c = search needs
-
-same-length-2 : tie.Need-same-length-2
-same-length-2 c = search needs
-
-same-length-3 : tie.Need-same-length-3
-same-length-3 c = search needs
-
-same-length-4 : tie.Need-same-length-4
-same-length-4 c = search needs
-
 returns : tie.Need-returns
 returns c =
     let k = c .before in
     let s = start k in
     let refused : ¬ (k .clear-checked .result ≡ 0) = omega (arith, c .if1 .taken) in
     clear-refused (s .args .territory) (at-entry s) (k .clear-checked .ensures) refused
-
-zero-cells-requires : tie.Need-zero-cells-requires
-zero-cells-requires c κs = search needs
-
-zero-cells-requires-2 : tie.Need-zero-cells-requires-2
-zero-cells-requires-2 c κs = search needs
-
-zero-cells-requires-3 : tie.Need-zero-cells-requires-3
-zero-cells-requires-3 c κs = search needs
-
-zero-words-requires : tie.Need-zero-words-requires
-zero-words-requires c κs = search needs
-
-same-length-5 : tie.Need-same-length-5
-same-length-5 c = search needs
-
-same-length-6 : tie.Need-same-length-6
-same-length-6 c = search needs
-
-same-length-7 : tie.Need-same-length-7
-same-length-7 c = search needs
-
-same-length-8 : tie.Need-same-length-8
-same-length-8 c = search needs
 
 returns-2 : tie.Need-returns-2
 unfolding cleared
@@ -78,18 +39,18 @@ pub clear-spec : {M : Type 1} → statement M
 clear-spec =
     tie.close
     (tie.spec
-    clear-checked-requires
-    same-length
-    same-length-2
-    same-length-3
-    same-length-4
+    (λ c κs. search needs)
+    (λ c. search needs)
+    (λ c. search needs)
+    (λ c. search needs)
+    (λ c. search needs)
     returns
-    zero-cells-requires
-    zero-cells-requires-2
-    zero-cells-requires-3
-    zero-words-requires
-    same-length-5
-    same-length-6
-    same-length-7
-    same-length-8
+    (λ c κs. search needs)
+    (λ c κs. search needs)
+    (λ c κs. search needs)
+    (λ c κs. search needs)
+    (λ c. search needs)
+    (λ c. search needs)
+    (λ c. search needs)
+    (λ c. search needs)
     returns-2)

@@ -12,23 +12,8 @@ use Rattle.updates.proofs.re_home.Tie as tie
 abbrev at-entry : tie.Start → Lent
 at-entry s = lent (s .args .first) (s .args .long) (s .args .owners) (s .args .rules)
 
-re-home-checked-requires : tie.Need-re-home-checked-requires
-re-home-checked-requires c κs = search needs
-
 put-checked-requires : tie.Need-put-checked-requires
 put-checked-requires c κs = re-home-puttable (c .before .before .before .before .re-home-checked .ensures)
-
-same-length : tie.Need-same-length
-same-length c = search needs
-
-same-length-2 : tie.Need-same-length-2
-same-length-2 c = search needs
-
-same-length-3 : tie.Need-same-length-3
-same-length-3 c = search needs
-
-same-length-4 : tie.Need-same-length-4
-same-length-4 c = search needs
 
 returns : tie.Need-returns
 returns c =
@@ -41,10 +26,10 @@ pub re-home-spec : {M : Type 1} → statement M
 re-home-spec =
     tie.close
     (tie.spec
-    re-home-checked-requires
+    (λ c κs. search needs)
     put-checked-requires
-    same-length
-    same-length-2
-    same-length-3
-    same-length-4
+    (λ c. search needs)
+    (λ c. search needs)
+    (λ c. search needs)
+    (λ c. search needs)
     returns)

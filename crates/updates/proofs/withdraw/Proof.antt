@@ -11,23 +11,8 @@ use Rattle.updates.proofs.withdraw.Tie as tie
 abbrev at-entry : tie.Start → Lent
 at-entry s = lent (s .args .first) (s .args .long) (s .args .owners) (s .args .rules)
 
-withdraw-checked-requires : tie.Need-withdraw-checked-requires
-withdraw-checked-requires c κs = search needs
-
 take-checked-requires : tie.Need-take-checked-requires
 take-checked-requires c κs = withdraw-takable (c .before .before .before .before .withdraw-checked .ensures)
-
-same-length : tie.Need-same-length
-same-length c = search needs
-
-same-length-2 : tie.Need-same-length-2
-same-length-2 c = search needs
-
-same-length-3 : tie.Need-same-length-3
-same-length-3 c = search needs
-
-same-length-4 : tie.Need-same-length-4
-same-length-4 c = search needs
 
 returns : tie.Need-returns
 returns c =
@@ -40,10 +25,10 @@ pub withdraw-spec : {M : Type 1} → statement M
 withdraw-spec =
     tie.close
     (tie.spec
-    withdraw-checked-requires
+    (λ c κs. search needs)
     take-checked-requires
-    same-length
-    same-length-2
-    same-length-3
-    same-length-4
+    (λ c. search needs)
+    (λ c. search needs)
+    (λ c. search needs)
+    (λ c. search needs)
     returns)

@@ -14,13 +14,10 @@ returns c =
     let s = c .before .args in
     sym (ap (λ (b : Bool). b && not (isPointer (s .cell))) (stops (ltb? width (s .length)) (λ h. omega arith)))
 
-is-pointer-requires : tie.Need-is-pointer-requires
-is-pointer-requires c κs = search needs
-
 returns-2 : tie.Need-returns-2
 returns-2 c =
     let s = c .before .before .args in
     ap not (c .is-pointer .ensures) ∙ sym (ap (λ (b : Bool). b && not (isPointer (s .cell))) (passes (ltb? width (s .length)) (omega arith)))
 
 pub needs-segment-spec : {M : Type 1} → statement M
-needs-segment-spec = tie.close (tie.spec returns is-pointer-requires returns-2)
+needs-segment-spec = tie.close (tie.spec returns (λ c κs. search needs) returns-2)

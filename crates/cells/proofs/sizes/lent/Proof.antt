@@ -19,16 +19,10 @@ returns-2 c =
     let s = c .before .before .args in
     sym (stops (lentToUpdate? (s .first) (s .long) (s .owners) (s .rules) (s .territory)) (λ l. omega (arith, l .few-rules)))
 
-mul-if3 : tie.Need-mul-if3
-mul-if3 c = search needs
-
 returns-3 : tie.Need-returns-3
 returns-3 c =
     let s = c .before .before .before .args in
     sym (stops (lentToUpdate? (s .first) (s .long) (s .owners) (s .rules) (s .territory)) (λ l. c .if3 .taken (l .whole-segments)))
-
-is-territory-requires : tie.Need-is-territory-requires
-is-territory-requires c κs = search needs
 
 returns-4 : tie.Need-returns-4
 returns-4 c =
@@ -63,9 +57,9 @@ lent-spec =
     (tie.spec
     returns
     returns-2
-    mul-if3
+    (λ c. search needs)
     returns-3
-    is-territory-requires
+    (λ c κs. search needs)
     returns-4
     blocks-of-requires
     returns-5)

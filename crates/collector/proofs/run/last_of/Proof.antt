@@ -6,15 +6,6 @@ use borrow.Author.Needs.{needs}
 use Rattle.collector.proofs.run.last_of.Statement.{statement}
 use Rattle.collector.proofs.run.last_of.Tie as tie
 
-enum-known-next : tie.Need-enum-known-next
-enum-known-next c = search needs
-
-enum-told : tie.Need-enum-told
-enum-told c = search needs
-
-enum-told-2 : tie.Need-enum-told-2
-enum-told-2 c = search needs
-
 returns : tie.Need-returns
 returns c = sym (ap (λ (x : Next). lastOf x (c .before .before .before .args .live) (c .before .before .before .args .opened)) (c .before .next .given .1))
 
@@ -26,4 +17,4 @@ returns-3 c = sym (ap (λ (x : Next). lastOf x (c .before .before .args .live) (
 
 pub last-of-spec : {M : Type 1} → statement M
 last-of-spec =
-    tie.close (tie.spec enum-known-next enum-told enum-told-2 returns returns-2 returns-3)
+    tie.close (tie.spec (λ c. search needs) (λ c. search needs) (λ c. search needs) returns returns-2 returns-3)

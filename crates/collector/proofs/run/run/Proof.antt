@@ -7,36 +7,6 @@ use borrow.Author.Needs.{needs}
 use Rattle.collector.proofs.run.run.Statement.{statement}
 use Rattle.collector.proofs.run.run.Tie as tie
 
-territory-requires : tie.Need-territory-requires
-territory-requires c κs = search needs
-
-clear-requires : tie.Need-clear-requires
-clear-requires c κs = search needs
-
-take-stream-requires : tie.Need-take-stream-requires
-take-stream-requires c κs = search needs
-
-live-prefixes-requires : tie.Need-live-prefixes-requires
-live-prefixes-requires c κs = search needs
-
-open-segments-requires : tie.Need-open-segments-requires
-open-segments-requires c κs = search needs
-
-last-of-requires : tie.Need-last-of-requires
-last-of-requires c κs = search needs
-
-same-length : tie.Need-same-length
-same-length c = search needs
-
-same-length-2 : tie.Need-same-length-2
-same-length-2 c = search needs
-
-same-length-3 : tie.Need-same-length-3
-same-length-3 c = search needs
-
-same-length-4 : tie.Need-same-length-4
-same-length-4 c = search needs
-
 returns : tie.Need-returns
 returns c =
     let s = c .before .before .before .before .before .before .before .before .before .before .before .before .before .before .before .before .before .before .before .before .before .before .before .before .before .before .before .before .before .before .before .before .before .before .before .before in
@@ -49,14 +19,14 @@ pub run-spec : {M : Type 1} → statement M
 run-spec =
     tie.close
     (tie.spec
-    territory-requires
-    clear-requires
-    take-stream-requires
-    live-prefixes-requires
-    open-segments-requires
-    last-of-requires
-    same-length
-    same-length-2
-    same-length-3
-    same-length-4
+    (λ c κs. search needs)
+    (λ c κs. search needs)
+    (λ c κs. search needs)
+    (λ c κs. search needs)
+    (λ c κs. search needs)
+    (λ c κs. search needs)
+    (λ c. search needs)
+    (λ c. search needs)
+    (λ c. search needs)
+    (λ c. search needs)
     returns)

@@ -21,21 +21,6 @@ returns-4 c =
     let s = c .before .before .before .before .before .before .args in
     line-2 (s .octets .now) (s .cents .now) (s .hop) (omega arith, omega arith) (λ l. omega (arith, l .1))
 
-mul-line-of : tie.Need-mul-line-of
-mul-line-of c = search needs
-
-shared-slice-read-line-of : tie.Need-shared-slice-read-line-of
-shared-slice-read-line-of c = search needs
-
-mul-line-of-2 : tie.Need-mul-line-of-2
-mul-line-of-2 c = search needs
-
-shared-slice-read-line-of-2 : tie.Need-shared-slice-read-line-of-2
-shared-slice-read-line-of-2 c = search needs
-
-line-of-requires : tie.Need-line-of-requires
-line-of-requires c κs = search needs
-
 returns-5 : tie.Need-returns-5
 returns-5 c =
     let s = c .before .before .before .before .before .before .before .before .before .args in
@@ -49,9 +34,9 @@ cost-line-spec =
     returns-2
     returns-3
     returns-4
-    mul-line-of
-    shared-slice-read-line-of
-    mul-line-of-2
-    shared-slice-read-line-of-2
-    line-of-requires
+    (λ c. search needs)
+    (λ c. search needs)
+    (λ c. search needs)
+    (λ c. search needs)
+    (λ c κs. search needs)
     returns-5)

@@ -14,13 +14,10 @@ returns-2 c = let s = c .before .before .args in words-31 (s .octets) (s .cents)
 returns-3 : tie.Need-returns-3
 returns-3 c = let s = c .before .before .before .args in words-none (s .octets) (s .cents) (omega arith) (omega arith) (omega arith)
 
-rate-requires : tie.Need-rate-requires
-rate-requires c κs = search needs
-
 returns-4 : tie.Need-returns-4
 returns-4 c =
     let s = c .before .before .before .before .args in
     words-rate (s .octets) (s .cents) (omega arith) (omega arith) (λ z. omega arith) (c .rate .ensures)
 
 pub line-of-spec : {M : Type 1} → statement M
-line-of-spec = tie.close (tie.spec returns returns-2 returns-3 rate-requires returns-4)
+line-of-spec = tie.close (tie.spec returns returns-2 returns-3 (λ c κs. search needs) returns-4)

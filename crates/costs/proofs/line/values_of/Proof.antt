@@ -6,15 +6,6 @@ use borrow.Author.Needs.{needs}
 use Rattle.costs.proofs.line.values_of.Statement.{statement}
 use Rattle.costs.proofs.line.values_of.Tie as tie
 
-enum-known-line : tie.Need-enum-known-line
-enum-known-line c = search needs
-
-enum-told : tie.Need-enum-told
-enum-told c = search needs
-
-enum-known-line-2 : tie.Need-enum-known-line-2
-enum-known-line-2 c = search needs
-
 returns : tie.Need-returns
 returns c = sym (ap valuesOf (c .before .line .given .1))
 
@@ -28,4 +19,4 @@ returns-3 c = sym (ap valuesOf (c .before .line2 .given .1))
 
 pub values-of-spec : {M : Type 1} → statement M
 values-of-spec =
-    tie.close (tie.spec enum-known-line enum-told enum-known-line-2 returns returns-2 returns-3)
+    tie.close (tie.spec (λ c. search needs) (λ c. search needs) (λ c. search needs) returns returns-2 returns-3)

@@ -5,18 +5,6 @@ use borrow.Author.Needs.{needs}
 use Rattle.costs.proofs.order.ranks_before_words.Statement.{statement}
 use Rattle.costs.proofs.order.ranks_before_words.Tie as tie
 
-mul-line-before : tie.Need-mul-line-before
-mul-line-before c = search needs
-
-shared-slice-read-line-before : tie.Need-shared-slice-read-line-before
-shared-slice-read-line-before c = search needs
-
-mul-line-before-2 : tie.Need-mul-line-before-2
-mul-line-before-2 c = search needs
-
-shared-slice-read-line-before-2 : tie.Need-shared-slice-read-line-before-2
-shared-slice-read-line-before-2 c = search needs
-
 line-before-requires : tie.Need-line-before-requires
 line-before-requires c κs =
     let s = c .before .before .before .before in
@@ -35,9 +23,9 @@ pub ranks-before-words-spec : {M : Type 1} → statement M
 ranks-before-words-spec =
     tie.close
     (tie.spec
-    mul-line-before
-    shared-slice-read-line-before
-    mul-line-before-2
-    shared-slice-read-line-before-2
+    (λ c. search needs)
+    (λ c. search needs)
+    (λ c. search needs)
+    (λ c. search needs)
     line-before-requires
     returns)

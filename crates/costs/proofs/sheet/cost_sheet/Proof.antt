@@ -16,17 +16,11 @@ returns-2 c = let s = c .before .before .before .before .before .args in refused
 returns-3 : tie.Need-returns-3
 returns-3 c = let s = c .before .before .before .before .before .before .args in refused-1 (s .octets .now) (s .cents .now) (s .hops .now) (λ z. omega (arith, z .1))
 
-within-requires : tie.Need-within-requires
-within-requires c κs = search needs
-
 returns-4 : tie.Need-returns-4
 returns-4 c =
     let s = c .before .before .before .before .before .before .before .before .args in
     refused-30 (s .octets .now) (s .cents .now) (s .hops .now) ((omega arith, omega arith), omega arith)
     (if-not (within? 0 (s .octets .now)) (c .before .within .ensures) (c .if4 .taken))
-
-within-requires-2 : tie.Need-within-requires-2
-within-requires-2 c κs = search needs
 
 returns-5 : tie.Need-returns-5
 returns-5 c =
@@ -45,14 +39,8 @@ tested k =
       cents = if-so (within? 1 (s .cents .now)) (k .before .within2 .ensures) (k .if5 .left);
     }
 
-number-requires : tie.Need-number-requires
-number-requires c κs = search needs
-
 sort-requires : tie.Need-sort-requires
 sort-requires c κs = (tested-sound (tested (c .before .before .before .before .before)), (c .before .before .before .number .ensures, omega arith))
-
-same-length : tie.Need-same-length
-same-length c = search needs
 
 returns-6 : tie.Need-returns-6
 returns-6 c =
@@ -66,9 +54,6 @@ build-requires c κs = (tested-sound (tested (c .before .before .before .before 
 drain-requires : tie.Need-drain-requires
 drain-requires c κs = (tested-sound (tested (c .before .before .before .before .before .before .before .before .before .before .before .before .before .before)), c .before .before .before .build .ensures)
 
-same-length-2 : tie.Need-same-length-2
-same-length-2 c = search needs
-
 returns-7 : tie.Need-returns-7
 returns-7 c = filled-0 (tested (c .before .before .before .before .before .before .before .before .before .before .before .before .before .before .before .before .before)) (c .before .before .drain .ensures)
 
@@ -79,15 +64,15 @@ cost-sheet-spec =
     returns
     returns-2
     returns-3
-    within-requires
+    (λ c κs. search needs)
     returns-4
-    within-requires-2
+    (λ c κs. search needs)
     returns-5
-    number-requires
+    (λ c κs. search needs)
     sort-requires
-    same-length
+    (λ c. search needs)
     returns-6
     build-requires
     drain-requires
-    same-length-2
+    (λ c. search needs)
     returns-7)

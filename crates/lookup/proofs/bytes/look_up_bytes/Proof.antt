@@ -21,9 +21,6 @@ returns-2 : tie.Need-returns-2
 returns-2 c =
     let s = c .before .before .before .before .args in not-whole (now (s .first)) (now (s .long)) (s .territory) (s .address) (λ h. c .if2 .taken (h .1))
 
-standing-requires : tie.Need-standing-requires
-standing-requires c κs = search needs
-
 refusal-requires : tie.Need-refusal-requires
 refusal-requires c κs =
     let s = c .before .before .before .before .before .before .args in
@@ -48,16 +45,10 @@ may-read c =
 block-of-requires : tie.Need-block-of-requires
 block-of-requires c κs = past-base (may-read c)
 
-cast-says-bytes : tie.Need-cast-says-bytes
-cast-says-bytes c = search needs
-
 word-requires : tie.Need-word-requires
 word-requires c κs =
     let s = c .before .before .before .before .before .before .before .args in
     omega (arith, block-lent (may-read (c .before)), length-words (now (s .first)))
-
-says-bytes-requires : tie.Need-says-bytes-requires
-says-bytes-requires c κs = search needs
 
 returns-4 : tie.Need-returns-4
 unfolding lookUp
@@ -76,11 +67,11 @@ look-up-bytes-spec =
     (tie.spec
     returns
     returns-2
-    standing-requires
+    (λ c κs. search needs)
     refusal-requires
     returns-3
     block-of-requires
-    cast-says-bytes
+    (λ c. search needs)
     word-requires
-    says-bytes-requires
+    (λ c κs. search needs)
     returns-4)

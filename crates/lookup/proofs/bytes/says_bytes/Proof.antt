@@ -15,12 +15,6 @@ use borrow.Author.Needs.{needs}
 use Rattle.lookup.proofs.bytes.says_bytes.Statement.{statement}
 use Rattle.lookup.proofs.bytes.says_bytes.Tie as tie
 
-is-pointer-requires : tie.Need-is-pointer-requires
-is-pointer-requires c κs = search needs
-
-verdict-requires : tie.Need-verdict-requires
-verdict-requires c κs = search needs
-
 returns : tie.Need-returns
 returns c =
     let s = c .before .before .before .before .args in
@@ -38,17 +32,8 @@ returns-2 c =
     let astray : length long / blockSize ≤ segmentOf (s .cell) = omega (arith, c .if2 .taken, length-words (now (s .long))) in
     sym (ap packed (not-lent long (s .low) (s .cell) (segment-requires (c .before .before) tt) astray))
 
-mul-word : tie.Need-mul-word
-mul-word c = search needs
-
-add-word : tie.Need-add-word
-add-word c = search needs
-
 word-requires : tie.Need-word-requires
 word-requires c κs = omega arith
-
-verdict-requires-2 : tie.Need-verdict-requires-2
-verdict-requires-2 c κs = search needs
 
 returns-3 : tie.Need-returns-3
 returns-3 c =
@@ -64,13 +49,13 @@ pub says-bytes-spec : {M : Type 1} → statement M
 says-bytes-spec =
     tie.close
     (tie.spec
-    is-pointer-requires
-    verdict-requires
+    (λ c κs. search needs)
+    (λ c κs. search needs)
     returns
     segment-requires
     returns-2
-    mul-word
-    add-word
+    (λ c. search needs)
+    (λ c. search needs)
     word-requires
-    verdict-requires-2
+    (λ c κs. search needs)
     returns-3)

@@ -9,12 +9,6 @@ use borrow.Author.Needs.{needs}
 use Rattle.lookup.proofs.look.direct_or_damage.Statement.{statement}
 use Rattle.lookup.proofs.look.direct_or_damage.Tie as tie
 
-is-direct-requires : tie.Need-is-direct-requires
-is-direct-requires c κs = search needs
-
-hop-requires : tie.Need-hop-requires
-hop-requires c κs = search needs
-
 returns : tie.Need-returns
 returns c =
     let s = c .before .before .before .args in
@@ -31,4 +25,4 @@ returns-2 c =
 pub direct-or-damage-spec : {M : Type 1} → statement M
 direct-or-damage-spec =
     tie.close
-    (tie.spec is-direct-requires hop-requires returns returns-2)
+    (tie.spec (λ c κs. search needs) (λ c κs. search needs) returns returns-2)

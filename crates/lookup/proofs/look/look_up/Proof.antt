@@ -12,9 +12,6 @@ use borrow.Author.Needs.{needs}
 use Rattle.lookup.proofs.look.look_up.Statement.{statement}
 use Rattle.lookup.proofs.look.look_up.Tie as tie
 
-standing-requires : tie.Need-standing-requires
-standing-requires c κs = search needs
-
 returns : tie.Need-returns
 unfolding lookUp
 returns c =
@@ -29,20 +26,8 @@ may-read c = let zero : c .before .standing .result ≡ 0 = omega (arith, c .if1
 block-of-requires : tie.Need-block-of-requires
 block-of-requires c κs = past-base (may-read c)
 
-cast-says : tie.Need-cast-says
-cast-says c = search needs
-
-mul-says : tie.Need-mul-says
-mul-says c = search needs
-
 shared-slice-read-says : tie.Need-shared-slice-read-says
 shared-slice-read-says c = omega (arith, block-lent (may-read (c .before .before)))
-
-says-requires : tie.Need-says-requires
-says-requires c κs = search needs
-
-unpack-requires : tie.Need-unpack-requires
-unpack-requires c κs = search needs
 
 returns-2 : tie.Need-returns-2
 unfolding lookUp
@@ -62,12 +47,12 @@ pub look-up-spec : {M : Type 1} → statement M
 look-up-spec =
     tie.close
     (tie.spec
-    standing-requires
+    (λ c κs. search needs)
     returns
     block-of-requires
-    cast-says
-    mul-says
+    (λ c. search needs)
+    (λ c. search needs)
     shared-slice-read-says
-    says-requires
-    unpack-requires
+    (λ c κs. search needs)
+    (λ c κs. search needs)
     returns-2)

@@ -13,12 +13,6 @@ use borrow.Author.Needs.{needs}
 use Rattle.lookup.proofs.look.says.Statement.{statement}
 use Rattle.lookup.proofs.look.says.Tie as tie
 
-is-pointer-requires : tie.Need-is-pointer-requires
-is-pointer-requires c κs = search needs
-
-verdict-requires : tie.Need-verdict-requires
-verdict-requires c κs = search needs
-
 returns : tie.Need-returns
 returns c =
     let s = c .before .before .before .before .args in
@@ -35,20 +29,8 @@ returns-2 c =
     let astray : length (now (s .long)) / blockSize ≤ segmentOf (s .cell) = omega (arith, c .if2 .taken) in
     sym (ap packed (not-lent (now (s .long)) (s .low) (s .cell) (segment-requires (c .before .before) tt) astray))
 
-mul-verdict : tie.Need-mul-verdict
-mul-verdict c = search needs
-
-add-verdict : tie.Need-add-verdict
-add-verdict c = search needs
-
-mul-verdict-2 : tie.Need-mul-verdict-2
-mul-verdict-2 c = search needs
-
 shared-slice-read-verdict : tie.Need-shared-slice-read-verdict
 shared-slice-read-verdict c = omega arith
-
-verdict-requires-2 : tie.Need-verdict-requires-2
-verdict-requires-2 c κs = search needs
 
 returns-3 : tie.Need-returns-3
 returns-3 c =
@@ -62,14 +44,14 @@ pub says-spec : {M : Type 1} → statement M
 says-spec =
     tie.close
     (tie.spec
-    is-pointer-requires
-    verdict-requires
+    (λ c κs. search needs)
+    (λ c κs. search needs)
     returns
     segment-requires
     returns-2
-    mul-verdict
-    add-verdict
-    mul-verdict-2
+    (λ c. search needs)
+    (λ c. search needs)
+    (λ c. search needs)
     shared-slice-read-verdict
-    verdict-requires-2
+    (λ c κs. search needs)
     returns-3)

@@ -15,17 +15,11 @@ returns : tie.Need-returns
 unfolding standingOf
 returns c = let s = c .before .args in sym (cond-off _ _ (lentToRead? (s .first) (s .long) (s .territory)) (λ l. omega (arith, l .territory .wide)))
 
-cleared-requires : tie.Need-cleared-requires
-cleared-requires c κs = search needs
-
 returns-2 : tie.Need-returns-2
 unfolding standingOf
 returns-2 c =
     let s = c .before .before .before .args in
     sym (cond-off _ _ (lentToRead? (s .first) (s .long) (s .territory)) (λ l. c .if2 .taken (omega (arith, l .territory .formed .clear))))
-
-blocks-of-requires : tie.Need-blocks-of-requires
-blocks-of-requires c κs = search needs
 
 returns-3 : tie.Need-returns-3
 unfolding standingOf
@@ -44,9 +38,6 @@ unfolding standingOf
 returns-5 c =
     let s = c .before .before .before .before .before .before .before .args in
     sym (cond-off _ _ (lentToRead? (s .first) (s .long) (s .territory)) (λ l. omega (arith, l .not-too-many)))
-
-cleared-requires-2 : tie.Need-cleared-requires-2
-cleared-requires-2 c κs = search needs
 
 -- past the first five tests, what is lent is right
 lent : (c : tie.Else5) → let s = c .before .before .before .before .before .before .before .args in LentToRead (s .first) (s .long) (s .territory)
@@ -83,12 +74,12 @@ standing-spec =
     tie.close
     (tie.spec
     returns
-    cleared-requires
+    (λ c κs. search needs)
     returns-2
-    blocks-of-requires
+    (λ c κs. search needs)
     returns-3
     returns-4
     returns-5
-    cleared-requires-2
+    (λ c κs. search needs)
     returns-6
     returns-7)

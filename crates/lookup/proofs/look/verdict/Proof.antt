@@ -8,9 +8,6 @@ use borrow.Author.Needs.{needs}
 use Rattle.lookup.proofs.look.verdict.Statement.{statement}
 use Rattle.lookup.proofs.look.verdict.Tie as tie
 
-direct-or-damage-requires : tie.Need-direct-or-damage-requires
-direct-or-damage-requires c κs = search needs
-
 returns : tie.Need-returns
 unfolding verdictOf
 returns c =
@@ -26,4 +23,4 @@ returns-2 c =
     c .before .direct-or-damage .ensures ∙ sym (ap packed (cond-off _ _ (eqb? (s .cell) empty) some))
 
 pub verdict-spec : {M : Type 1} → statement M
-verdict-spec = tie.close (tie.spec direct-or-damage-requires returns returns-2)
+verdict-spec = tie.close (tie.spec (λ c κs. search needs) returns returns-2)

@@ -14,12 +14,6 @@ use borrow.Author.Needs.{needs}
 use Rattle.lookup.proofs.show.show_cells.Statement.{statement}
 use Rattle.lookup.proofs.show.show_cells.Tie as tie
 
-show-code-requires : tie.Need-show-code-requires
-show-code-requires c κs = search needs
-
-slice-aggregate-result : tie.Need-slice-aggregate-result
-slice-aggregate-result c = search needs
-
 returns : tie.Need-returns
 returns c =
     let s = c .before .before .before .before .before .args in
@@ -37,26 +31,8 @@ may-show c =
 block-of-requires : tie.Need-block-of-requires
 block-of-requires c κs = past-base (may-show c .stands)
 
-mul-cell : tie.Need-mul-cell
-mul-cell c = search needs
-
 shared-slice-read-cell : tie.Need-shared-slice-read-cell
 shared-slice-read-cell c = omega (arith, block-lent (may-show (c .before .before) .stands))
-
-is-pointer-requires : tie.Need-is-pointer-requires
-is-pointer-requires c κs = search needs
-
-add-result : tie.Need-add-result
-add-result c = search needs
-
-mul-result : tie.Need-mul-result
-mul-result c = search needs
-
-sub-result : tie.Need-sub-result
-sub-result c = search needs
-
-part-result-start : tie.Need-part-result-start
-part-result-start c = search needs
 
 part-result-end : tie.Need-part-result-end
 part-result-end c = omega (arith, block-lent (may-show (c .before .before .before .before) .stands))
@@ -102,12 +78,6 @@ add-result-2 c = omega (arith, lent c)
 mul-result-2 : tie.Need-mul-result-2
 mul-result-2 c = omega (arith, lent c)
 
-sub-result-2 : tie.Need-sub-result-2
-sub-result-2 c = search needs
-
-part-result-start-2 : tie.Need-part-result-start-2
-part-result-start-2 c = search needs
-
 part-result-end-2 : tie.Need-part-result-end-2
 part-result-end-2 c = omega (arith, lent c)
 
@@ -122,24 +92,24 @@ pub show-cells-spec : {M : Type 1} → statement M
 show-cells-spec =
     tie.close
     (tie.spec
-    show-code-requires
-    slice-aggregate-result
+    (λ c κs. search needs)
+    (λ c. search needs)
     returns
     block-of-requires
-    mul-cell
+    (λ c. search needs)
     shared-slice-read-cell
-    is-pointer-requires
-    add-result
-    mul-result
-    sub-result
-    part-result-start
+    (λ c κs. search needs)
+    (λ c. search needs)
+    (λ c. search needs)
+    (λ c. search needs)
+    (λ c. search needs)
     part-result-end
     returns-2
     segment-requires
     mul-start
     add-result-2
     mul-result-2
-    sub-result-2
-    part-result-start-2
+    (λ c. search needs)
+    (λ c. search needs)
     part-result-end-2
     returns-3)

@@ -15,9 +15,6 @@ use borrow.Author.Needs.{needs}
 use Rattle.lookup.proofs.show.show_code.Statement.{statement}
 use Rattle.lookup.proofs.show.show_code.Tie as tie
 
-standing-requires : tie.Need-standing-requires
-standing-requires c κs = search needs
-
 returns : tie.Need-returns
 unfolding showCode
 returns c =
@@ -32,14 +29,8 @@ may-read c = let zero : c .before .standing .result ≡ 0 = omega (arith, c .if1
 block-of-requires : tie.Need-block-of-requires
 block-of-requires c κs = past-base (may-read c)
 
-mul-cell : tie.Need-mul-cell
-mul-cell c = search needs
-
 shared-slice-read-cell : tie.Need-shared-slice-read-cell
 shared-slice-read-cell c = omega (arith, block-lent (may-read (c .before .before)))
-
-is-pointer-requires : tie.Need-is-pointer-requires
-is-pointer-requires c κs = search needs
 
 -- what is read there is the first cell
 read : (c : tie.After-block-of) → let s = c .before .before .before .before .before .args in
@@ -78,12 +69,12 @@ pub show-code-spec : {M : Type 1} → statement M
 show-code-spec =
     tie.close
     (tie.spec
-    standing-requires
+    (λ c κs. search needs)
     returns
     block-of-requires
-    mul-cell
+    (λ c. search needs)
     shared-slice-read-cell
-    is-pointer-requires
+    (λ c κs. search needs)
     returns-2
     segment-requires
     returns-3

@@ -10,9 +10,6 @@ use Rattle.prefix.proofs.Spans.{span-runs}
 use Rattle.prefix.proofs.geometry.blocks_of.Statement.{statement}
 use Rattle.prefix.proofs.geometry.blocks_of.Tie as tie
 
-span-of-requires : tie.Need-span-of-requires
-span-of-requires c κs = search needs
-
 returns : tie.Need-returns
 returns c =
     let l = c .before .args .length in
@@ -20,4 +17,4 @@ returns c =
     omega (arith, c .span-of .ensures)
 
 pub blocks-of-spec : {M : Type 1} → statement M
-blocks-of-spec = tie.close (tie.spec span-of-requires returns)
+blocks-of-spec = tie.close (tie.spec (λ c κs. search needs) returns)

@@ -7,9 +7,6 @@ use Rattle.prefix.specs.Geometry.{width}
 use Rattle.prefix.proofs.geometry.touched.Statement.{statement}
 use Rattle.prefix.proofs.geometry.touched.Tie as tie
 
-block-of-requires : tie.Need-block-of-requires
-block-of-requires c κs = search needs
-
 returns : tie.Need-returns
 returns c =
     let s = c .before .before .args in
@@ -17,12 +14,9 @@ returns c =
     let one : 1 ≡ 2 ^ (width - s .prefix .length) = sym (ap (λ (n : ℕ). 2 ^ n) none) in
     λ i. record { from = c .before .block-of .ensures i; count = one i }
 
-blocks-of-requires : tie.Need-blocks-of-requires
-blocks-of-requires c κs = search needs
-
 returns-2 : tie.Need-returns-2
 returns-2 c =
     λ i. record { from = c .before .before .block-of .ensures i; count = c .blocks-of .ensures i }
 
 pub touched-spec : {M : Type 1} → statement M
-touched-spec = tie.close (tie.spec block-of-requires returns blocks-of-requires returns-2)
+touched-spec = tie.close (tie.spec (λ c κs. search needs) returns (λ c κs. search needs) returns-2)

@@ -31,9 +31,6 @@ lent-of s = lent (s .args .first) (s .args .long) (s .args .owners) (s .args .ru
 abbrev route : tie.Start → Route
 route s = routeBy (s .args .prefix) (s .args .hop)
 
-is-route-requires : tie.Need-is-route-requires
-is-route-requires c κs = search needs
-
 tests-requires : tie.Need-tests-requires
 tests-requires c κs = λ e. says (isRoute? _) (sym (c .is-route .ensures) ∙ e) .formed
 
@@ -46,12 +43,6 @@ told c = c .tests .ensures (puts (route (c .before .before .before .before .befo
 returns : tie.Need-returns
 unfolding code
 returns c = let s = c .before .before .before .before .before .before .before .before in stays (puts (route s)) (told (c .before .before)) (unlessRoom (s .args .territory) (s .args .prefix)) (c .if1 .taken)
-
-is-full-requires : tie.Need-is-full-requires
-is-full-requires c κs = search needs
-
-refused-requires : tie.Need-refused-requires
-refused-requires c κs = search needs
 
 -- the test of refusal 6
 no-room : (c : tie.After-is-full) → let s = c .before .before .before .before .before .before .before .before .before .before .args in c .is-full .result ≡ (not (isLive (s .prefix) (routes (s .rules .now))) && noZero (s .rules .now))
@@ -76,9 +67,6 @@ mul-needs-segment c = omega (arith, cell-lent (c .before .before .before .before
 shared-slice-read-needs-segment : tie.Need-shared-slice-read-needs-segment
 shared-slice-read-needs-segment c = omega (arith, cell-lent (c .before .before .before .before .before))
 
-needs-segment-requires : tie.Need-needs-segment-requires
-needs-segment-requires c κs = search needs
-
 -- the test of a segment
 needed : (c : tie.After-needs-segment) → let s = c .before .before .before .before .before .before .before .before .before .before .before .before .before .before in c .needs-segment .result ≡ needsSegment (s .args .territory) (s .args .prefix) (lent-of s .tables)
 unfolding needsSegment
@@ -93,12 +81,6 @@ returns-3 c =
     let s = c .before .before .before .before .before .before .before .before .before .before .before .before .before .before .before in
     let no = sym (needed (c .before)) ∙ not-true _ (c .if3 .taken) in
     told-as (told (c .before .before .before .before .before .before .before .before .before)) (ap (tested (s .args .territory) (puts (route s)) (lent-of s)) (by-room _ _ (lent-of s) (sym (no-room (c .before .before .before .before .before)) ∙ c .before .before .before .before .if2 .left) no refl)) (λ z. sym no)
-
-free-segment-requires : tie.Need-free-segment-requires
-free-segment-requires c κs = search needs
-
-refused-requires-2 : tie.Need-refused-requires-2
-refused-requires-2 c κs = search needs
 
 returns-4 : tie.Need-returns-4
 unfolding code
@@ -128,17 +110,17 @@ pub announce-checked-spec : {M : Type 1} → statement M
 announce-checked-spec =
     tie.close
     (tie.spec
-    is-route-requires
+    (λ c κs. search needs)
     tests-requires
     returns
-    is-full-requires
-    refused-requires
+    (λ c κs. search needs)
+    (λ c κs. search needs)
     returns-2
     mul-needs-segment
     shared-slice-read-needs-segment
-    needs-segment-requires
+    (λ c κs. search needs)
     returns-3
-    free-segment-requires
-    refused-requires-2
+    (λ c κs. search needs)
+    (λ c κs. search needs)
     returns-4
     returns-5)

@@ -6,9 +6,6 @@ use borrow.Author.Needs.{needs}
 use Rattle.refusals.proofs.codes.clear_checked.Statement.{statement}
 use Rattle.refusals.proofs.codes.clear_checked.Tie as tie
 
-lent-requires : tie.Need-lent-requires
-lent-requires c κs = search needs
-
 returns : tie.Need-returns
 unfolding clearCode
 returns c = sym (ap (λ (t : Bool). cond (not t) 1 0) (sym (c .before .lent .ensures) ∙ c .if1 .taken))
@@ -18,4 +15,4 @@ unfolding clearCode
 returns-2 c = sym (ap (λ (t : Bool). cond (not t) 1 0) (sym (c .before .lent .ensures) ∙ c .if1 .left))
 
 pub clear-checked-spec : {M : Type 1} → statement M
-clear-checked-spec = tie.close (tie.spec lent-requires returns returns-2)
+clear-checked-spec = tie.close (tie.spec (λ c κs. search needs) returns returns-2)

@@ -23,12 +23,6 @@ use Rattle.refusals.proofs.codes.damage_tests.Tie as tie
 abbrev lent-of : tie.Start → Lent
 lent-of s = lent (s .args .first) (s .args .long) (s .args .owners) (s .args .rules)
 
-form-of-requires : tie.Need-form-of-requires
-form-of-requires c κs = search needs
-
-refused-requires : tie.Need-refused-requires
-refused-requires c κs = search needs
-
 returns : tie.Need-returns
 returns c =
     let s = c .before .before .before .before .before .before .before .before in
@@ -51,9 +45,6 @@ blocks-sound-requires c κs =
     let s = c .before .before .before .before .before .before .before .before in
     let lent = touched-lent (s .pre .0 .sized) (s .pre .1 .0) (s .pre .1 .1) in
     ((s .pre .0 .sized, subst (λ (b : Blocks). BlocksLent b (lent-of s .tables)) (sym (c .touched .ensures)) lent), listed (c .before))
-
-refused-requires-2 : tie.Need-refused-requires-2
-refused-requires-2 c κs = search needs
 
 -- the second test
 sound : (c : tie.After-blocks-sound) → let s = c .before .before .before .before .before .before .before .before .before in let t = s .args .territory in
@@ -88,12 +79,12 @@ pub damage-tests-spec : {M : Type 1} → statement M
 damage-tests-spec =
     tie.close
     (tie.spec
-    form-of-requires
-    refused-requires
+    (λ c κs. search needs)
+    (λ c κs. search needs)
     returns
     touched-requires
     blocks-sound-requires
-    refused-requires-2
+    (λ c κs. search needs)
     returns-2
     find-requires
     returns-3)

@@ -14,9 +14,6 @@ returns c = sym (stops (isRoute? _) (λ r. omega (arith, r .some-hop)))
 returns-2 : tie.Need-returns-2
 returns-2 c = sym (stops (isRoute? _) (λ r. omega (arith, r .hop-fits)))
 
-well-formed-requires : tie.Need-well-formed-requires
-well-formed-requires c κs = search needs
-
 returns-3 : tie.Need-returns-3
 returns-3 c =
     c .well-formed .ensures
@@ -25,4 +22,4 @@ returns-3 c =
     (λ w. record { formed = w; some-hop = omega arith; hop-fits = omega arith }))
 
 pub is-route-spec : {M : Type 1} → statement M
-is-route-spec = tie.close (tie.spec returns returns-2 well-formed-requires returns-3)
+is-route-spec = tie.close (tie.spec returns returns-2 (λ c κs. search needs) returns-3)

@@ -15,14 +15,8 @@ use Rattle.refusals.proofs.codes.live_tests.Tie as tie
 abbrev lent-of : tie.Start → Lent
 lent-of s = lent (s .args .first) (s .args .long) (s .args .owners) (s .args .rules)
 
-tests-requires : tie.Need-tests-requires
-tests-requires c κs = search needs
-
 returns : tie.Need-returns
 returns c = λ ch a. stays ch (c .before .before .tests .ensures ch a) (unlessLive (c .before .before .before .before .before .before .before .args .prefix)) (c .if1 .taken)
-
-refused-requires : tie.Need-refused-requires
-refused-requires c κs = search needs
 
 returns-2 : tie.Need-returns-2
 returns-2 c = λ ch a.
@@ -46,4 +40,4 @@ returns-3 c = λ ch a.
     told-as k (ap (tested t ch m) (by-live p m lives)) (λ z. sym none)
 
 pub live-tests-spec : {M : Type 1} → statement M
-live-tests-spec = tie.close (tie.spec tests-requires returns refused-requires returns-2 returns-3)
+live-tests-spec = tie.close (tie.spec (λ c κs. search needs) returns (λ c κs. search needs) returns-2 returns-3)

@@ -9,9 +9,6 @@ use borrow.Author.Needs.{needs}
 use Rattle.refusals.proofs.codes.re_home_checked.Statement.{statement}
 use Rattle.refusals.proofs.codes.re_home_checked.Tie as tie
 
-is-route-requires : tie.Need-is-route-requires
-is-route-requires c κs = search needs
-
 live-tests-requires : tie.Need-live-tests-requires
 live-tests-requires c κs = λ e. says (isRoute? _) (sym (c .is-route .ensures) ∙ e) .formed
 
@@ -22,4 +19,4 @@ returns c =
     c .live-tests .ensures (puts (routeBy (s .prefix) (s .hop))) (record { names = refl; numbers = c .before .is-route .ensures })
 
 pub re-home-checked-spec : {M : Type 1} → statement M
-re-home-checked-spec = tie.close (tie.spec is-route-requires live-tests-requires returns)
+re-home-checked-spec = tie.close (tie.spec (λ c κs. search needs) live-tests-requires returns)

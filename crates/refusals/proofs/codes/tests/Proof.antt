@@ -16,12 +16,6 @@ use Rattle.refusals.proofs.codes.tests.Tie as tie
 abbrev lent-of : tie.Start → Lent
 lent-of s = lent (s .args .first) (s .args .long) (s .args .owners) (s .args .rules)
 
-lent-requires : tie.Need-lent-requires
-lent-requires c κs = search needs
-
-refused-requires : tie.Need-refused-requires
-refused-requires c κs = search needs
-
 returns : tie.Need-returns
 returns c = λ ch a.
     let s = c .before .before .before .before .before .before .before in
@@ -32,9 +26,6 @@ returns c = λ ch a.
 lent-right : (c : tie.Else1) → let s = c .before .before .before .before .before .before in IsLent (lent-of s) (s .args .territory)
 lent-right c = let s = c .before .before .before .before .before .before in if-so (isLent? _ _) (c .before .lent .ensures) (c .if1 .left)
 
-refused-requires-2 : tie.Need-refused-requires-2
-refused-requires-2 c κs = search needs
-
 returns-2 : tie.Need-returns-2
 returns-2 c = λ ch a.
     let s = c .before .before .before .before .before .before .before .before in
@@ -43,9 +34,6 @@ returns-2 c = λ ch a.
 
 encloses-requires : tie.Need-encloses-requires
 encloses-requires c κs = lent-right (c .before) .sized .territory .formed .short
-
-refused-requires-3 : tie.Need-refused-requires-3
-refused-requires-3 c κs = search needs
 
 returns-3 : tie.Need-returns-3
 returns-3 c = λ ch a.
@@ -71,13 +59,13 @@ pub tests-spec : {M : Type 1} → statement M
 tests-spec =
     tie.close
     (tie.spec
-    lent-requires
-    refused-requires
+    (λ c κs. search needs)
+    (λ c κs. search needs)
     returns
-    refused-requires-2
+    (λ c κs. search needs)
     returns-2
     encloses-requires
-    refused-requires-3
+    (λ c κs. search needs)
     returns-3
     damage-tests-requires
     returns-4)

@@ -8,9 +8,6 @@ use borrow.Author.Needs.{needs}
 use Rattle.refusals.proofs.codes.withdraw_checked.Statement.{statement}
 use Rattle.refusals.proofs.codes.withdraw_checked.Tie as tie
 
-well-formed-requires : tie.Need-well-formed-requires
-well-formed-requires c κs = search needs
-
 live-tests-requires : tie.Need-live-tests-requires
 live-tests-requires c κs = λ e. says (wellFormed? _) (sym (c .well-formed .ensures) ∙ e)
 
@@ -21,4 +18,4 @@ returns c =
     c .live-tests .ensures (takes (s .prefix)) (record { names = refl; numbers = c .before .well-formed .ensures })
 
 pub withdraw-checked-spec : {M : Type 1} → statement M
-withdraw-checked-spec = tie.close (tie.spec well-formed-requires live-tests-requires returns)
+withdraw-checked-spec = tie.close (tie.spec (λ c κs. search needs) live-tests-requires returns)

@@ -15,15 +15,6 @@ use borrow.Author.Needs.{needs}
 use Rattle.refusals.proofs.damage.block_sound.Statement.{statement}
 use Rattle.refusals.proofs.damage.block_sound.Tie as tie
 
-mul-cell : tie.Need-mul-cell
-mul-cell c = search needs
-
-shared-slice-read-cell : tie.Need-shared-slice-read-cell
-shared-slice-read-cell c = search needs
-
-is-pointer-requires : tie.Need-is-pointer-requires
-is-pointer-requires c κs = search needs
-
 -- the two cases
 other : (c : tie.Then1) → let s = c .before .before .before .before .before .before .args in getD (s .first .now) (s .block) 0 < pointerBit
 other c = lt-of-not-le (if-not (leb? _ _) (c .before .is-pointer .ensures) (c .if1 .taken))
@@ -33,9 +24,6 @@ pointer c = if-so (leb? _ _) (c .before .is-pointer .ensures) (c .if1 .left)
 
 returns : tie.Need-returns
 returns c = sym (stops (soundBy? _ _ _) (λ b. true≢false (sym (c .if2 .taken) ∙ b .other (other (c .before)) .1)))
-
-is-clean-requires : tie.Need-is-clean-requires
-is-clean-requires c κs = search needs
 
 returns-2 : tie.Need-returns-2
 returns-2 c =
@@ -55,9 +43,6 @@ returns-3 c =
 segment-requires : tie.Need-segment-requires
 segment-requires c κs = pointer (c .before)
 
-segment-sound-requires : tie.Need-segment-sound-requires
-segment-sound-requires c κs = search needs
-
 returns-4 : tie.Need-returns-4
 unfolding segmentSound
 returns-4 c =
@@ -73,13 +58,13 @@ pub block-sound-spec : {M : Type 1} → statement M
 block-sound-spec =
     tie.close
     (tie.spec
-    mul-cell
-    shared-slice-read-cell
-    is-pointer-requires
+    (λ c. search needs)
+    (λ c. search needs)
+    (λ c κs. search needs)
     returns
-    is-clean-requires
+    (λ c κs. search needs)
     returns-2
     returns-3
     segment-requires
-    segment-sound-requires
+    (λ c κs. search needs)
     returns-4)

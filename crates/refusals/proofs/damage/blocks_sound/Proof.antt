@@ -11,9 +11,6 @@ use Rattle.refusals.proofs.damage.blocks_sound.Tie as tie
 block-start-requires : tie.Need-block-start-requires
 block-start-requires c κs = let s = c .before .before .before .before in start-within (s .pre .0 .0) (omega (arith, s .good)) (s .args .blocks .from) (s .pre .0 .1 .first)
 
-reach-requires : tie.Need-reach-requires
-reach-requires c κs = search needs
-
 walk-requires : tie.Need-walk-requires
 walk-requires c κs =
     let s = c .before .before .before .before .before .before in
@@ -24,8 +21,5 @@ walk-requires c κs =
       reached = subst (λ (a : ℕ). Reached (s .args .rules .now) (s .args .live) a (c .reach .result)) (c .before .block-start .ensures) (c .reach .ensures);
     }
 
-returns : tie.Need-returns
-returns c = search needs
-
 pub blocks-sound-spec : {M : Type 1} → statement M
-blocks-sound-spec = tie.close (tie.spec block-start-requires reach-requires walk-requires returns)
+blocks-sound-spec = tie.close (tie.spec block-start-requires (λ c κs. search needs) walk-requires (λ c. search needs))

@@ -20,24 +20,6 @@ loop-holds : tie.Need-loop-holds Inv-loop μ-loop
 unfolding cleanRun everyBelow
 loop-holds c = (search needs, refl)
 
-add-is-clean : tie.Need-add-is-clean Inv-loop μ-loop
-add-is-clean c = search needs
-
-mul-is-clean : tie.Need-mul-is-clean Inv-loop μ-loop
-mul-is-clean c = search needs
-
-shared-slice-read-is-clean : tie.Need-shared-slice-read-is-clean Inv-loop μ-loop
-shared-slice-read-is-clean c = search needs
-
-is-clean-requires : tie.Need-is-clean-requires Inv-loop μ-loop
-is-clean-requires c κs = search needs
-
-add-i : tie.Need-add-i Inv-loop μ-loop
-add-i c = search needs
-
-loop-less : tie.Need-loop-less Inv-loop μ-loop
-loop-less c = search needs
-
 loop-again : tie.Need-loop-again Inv-loop μ-loop
 loop-again c = (search needs, ap₂ _&&_ (c .before .before .before .loop .inv .1) (c .is-clean .ensures) ∙ sym (clean-more _ _ _ _))
 
@@ -55,11 +37,11 @@ clean-run-spec =
     Inv-loop
     μ-loop
     loop-holds
-    add-is-clean
-    mul-is-clean
-    shared-slice-read-is-clean
-    is-clean-requires
-    add-i
-    loop-less
+    (λ c. search needs)
+    (λ c. search needs)
+    (λ c. search needs)
+    (λ c κs. search needs)
+    (λ c. search needs)
+    (λ c. search needs)
     loop-again
     returns)

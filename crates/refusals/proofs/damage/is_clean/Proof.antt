@@ -13,13 +13,10 @@ use Rattle.refusals.proofs.damage.is_clean.Tie as tie
 returns : tie.Need-returns
 returns c = sym (passes (isClean? _ _) (inl (c .if1 .taken)))
 
-is-direct-requires : tie.Need-is-direct-requires
-is-direct-requires c κs = search needs
-
 returns-2 : tie.Need-returns-2
 returns-2 c =
     let s = c .before .before .args in
     c .is-direct .ensures ∙ sym (ap (λ (t : Bool). t || isDirect (s .longest) (s .cell)) (ne-eqb _ _ (c .before .if1 .left)))
 
 pub is-clean-spec : {M : Type 1} → statement M
-is-clean-spec = tie.close (tie.spec returns is-direct-requires returns-2)
+is-clean-spec = tie.close (tie.spec returns (λ c κs. search needs) returns-2)

@@ -10,26 +10,11 @@ use Rattle.refusals.proofs.damage.segment_sound.Tie as tie
 returns : tie.Need-returns
 returns c = sym (stops (segmentSound? _ _ _) (λ h. omega (arith, h .lent)))
 
-mul-if2 : tie.Need-mul-if2
-mul-if2 c = search needs
-
-shared-slice-read-if2 : tie.Need-shared-slice-read-if2
-shared-slice-read-if2 c = search needs
-
 cast-if2 : tie.Need-cast-if2
 cast-if2 c = omega (arith, c .shared-slice-known3 .given (c .before .before .before .before .args .segment))
 
-add-if2 : tie.Need-add-if2
-add-if2 c = search needs
-
 returns-2 : tie.Need-returns-2
 returns-2 c = sym (stops (segmentSound? _ _ _) (λ h. c .if2 .taken (omega (arith, h .owned))))
-
-mul-clean-run : tie.Need-mul-clean-run
-mul-clean-run c = search needs
-
-clean-run-requires : tie.Need-clean-run-requires
-clean-run-requires c κs = search needs
 
 returns-3 : tie.Need-returns-3
 returns-3 c =
@@ -43,11 +28,11 @@ segment-sound-spec =
     tie.close
     (tie.spec
     returns
-    mul-if2
-    shared-slice-read-if2
+    (λ c. search needs)
+    (λ c. search needs)
     cast-if2
-    add-if2
+    (λ c. search needs)
     returns-2
-    mul-clean-run
-    clean-run-requires
+    (λ c. search needs)
+    (λ c κs. search needs)
     returns-3)

@@ -33,12 +33,6 @@ block-start-requires c κs =
     let s = c .before .before .before .before .before .before .before in
     start-within (s .pre .sized) (omega (arith, s .good)) (c .before .loop .block) (omega (arith, s .pre .lent .all))
 
-cast-stretch : tie.Need-cast-stretch Inv-loop μ-loop
-cast-stretch c = search needs
-
-sub-stretch : tie.Need-sub-stretch Inv-loop μ-loop
-sub-stretch c = search needs
-
 stretch-requires : tie.Need-stretch-requires Inv-loop μ-loop
 stretch-requires c κs =
     let s = c .before .before .before .before .before .before .before .before in
@@ -60,9 +54,6 @@ returns c =
 clean : (c : tie.Else1 Inv-loop μ-loop) → CleanRun width (c .before .before .before .before .before .before .before .before .before .before .before .args .first .now) (c .before .before .before .before .before .loop .block) (c .before .before .stretch .result)
 clean c = if-so (cleanRun? _ _ _ _) (c .before .clean-run .ensures) (c .if1 .left)
 
-add-stop : tie.Need-add-stop Inv-loop μ-loop
-add-stop c = search needs
-
 returns-2 : tie.Need-returns-2 Inv-loop μ-loop
 returns-2 c =
     let s = c .before .before .before .before .before .before .before .before .before .before .before .before in
@@ -74,9 +65,6 @@ block-start-requires-2 : tie.Need-block-start-requires-2 Inv-loop μ-loop
 block-start-requires-2 c κs =
     let s = c .before .before .before .before .before .before .before .before .before .before .before .before in
     start-within (s .pre .sized) (omega (arith, s .good)) (c .before .before .before .before .before .before .loop .block + c .before .before .before .stretch .result) (omega (arith, s .pre .lent .all, c .before .before .before .stretch .ensures .within))
-
-cast-pass : tie.Need-cast-pass Inv-loop μ-loop
-cast-pass c = search needs
 
 pass-requires : tie.Need-pass-requires Inv-loop μ-loop
 pass-requires c κs =
@@ -105,12 +93,6 @@ returns-3 c =
     (sound-here (s .pre .sized) (s .pre .listed) (l .inv .0) (c .before .before .before .before .before .before .before .before .block-start .ensures) (c .before .before .before .before .before .before .before .stretch .ensures) (c .before .before .before .block-start2 .ensures) (c .before .before .pass .ensures)
     (all stop (omega (arith, l .inv .0 .forward)) (omega (arith, c .before .before .before .before .before .before .before .stretch .ensures .within))))))
 
-add-block : tie.Need-add-block Inv-loop μ-loop
-add-block c = search needs
-
-loop-less : tie.Need-loop-less Inv-loop μ-loop
-loop-less c = search needs
-
 loop-again : tie.Need-loop-again Inv-loop μ-loop
 loop-again c =
     let s = c .before .before .before .before .before .before .before .before .before .before .before .before .before .before .before .before in
@@ -133,19 +115,19 @@ walk-spec =
     add-end
     loop-holds
     block-start-requires
-    cast-stretch
-    sub-stretch
+    (λ c. search needs)
+    (λ c. search needs)
     stretch-requires
     clean-run-requires
     returns
-    add-stop
+    (λ c. search needs)
     returns-2
     block-start-requires-2
-    cast-pass
+    (λ c. search needs)
     pass-requires
     block-sound-requires
     returns-3
-    add-block
-    loop-less
+    (λ c. search needs)
+    (λ c. search needs)
     loop-again
     returns-4)

@@ -4,14 +4,8 @@ use borrow.Author.Needs.{needs}
 use Rattle.rules.proofs.blocks.is_open.Statement.{statement}
 use Rattle.rules.proofs.blocks.is_open.Tie as tie
 
-reach-requires : tie.Need-reach-requires
-reach-requires c κs = search needs
-
 pass-requires : tie.Need-pass-requires
 pass-requires c κs = let s = c .before .before in (s .pre .0, (c .reach .ensures, (s .pre .1, omega (arith, s .fits .start))))
 
-returns : tie.Need-returns
-returns c = search needs
-
 pub is-open-spec : {M : Type 1} → statement M
-is-open-spec = tie.close (tie.spec reach-requires pass-requires returns)
+is-open-spec = tie.close (tie.spec (λ c κs. search needs) pass-requires (λ c. search needs))

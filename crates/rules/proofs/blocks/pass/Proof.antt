@@ -27,28 +27,10 @@ mul-word c = omega (arith, listed-within (c .before .before .before .pre .0))
 shared-slice-read-word : tie.Need-shared-slice-read-word Inv-loop μ-loop
 shared-slice-read-word c = omega (arith, listed-within (c .before .before .before .before .pre .0))
 
-add-if1 : tie.Need-add-if1 Inv-loop μ-loop
-add-if1 c = search needs
-
-address-requires : tie.Need-address-requires Inv-loop μ-loop
-address-requires c κs = search needs
-
-cast-if1 : tie.Need-cast-if1 Inv-loop μ-loop
-cast-if1 c = search needs
-
 returns : tie.Need-returns Inv-loop μ-loop
 returns c =
     let s = c .before .before .before .before .before .before in
     passing-met _ _ _ _ _ _ (s .pre .0) (s .pre .1 .1 .0) (s .pre .1 .0) (c .before .before .before .before .loop .inv) (λ l. omega arith)
-
-length-requires : tie.Need-length-requires Inv-loop μ-loop
-length-requires c κs = search needs
-
-add-i : tie.Need-add-i Inv-loop μ-loop
-add-i c = search needs
-
-loop-less : tie.Need-loop-less Inv-loop μ-loop
-loop-less c = search needs
 
 loop-again : tie.Need-loop-again Inv-loop μ-loop
 loop-again c =
@@ -71,12 +53,12 @@ pass-spec =
     loop-holds
     mul-word
     shared-slice-read-word
-    add-if1
-    address-requires
-    cast-if1
+    (λ c. search needs)
+    (λ c κs. search needs)
+    (λ c. search needs)
     returns
-    length-requires
-    add-i
-    loop-less
+    (λ c κs. search needs)
+    (λ c. search needs)
+    (λ c. search needs)
     loop-again
     returns-2)

@@ -4,14 +4,8 @@ use Rattle.rules.proofs.Cursor.{reached-from}
 use Rattle.rules.proofs.blocks.reach.Statement.{statement}
 use Rattle.rules.proofs.blocks.reach.Tie as tie
 
-key-of-requires : tie.Need-key-of-requires
-key-of-requires c κs = search needs
-
-position-requires : tie.Need-position-requires
-position-requires c κs = search needs
-
 returns : tie.Need-returns
 returns c = let s = c .before .before .before in reached-from (s .args .address) (s .pre) (c .before .key-of .ensures) (c .position .ensures)
 
 pub reach-spec : {M : Type 1} → statement M
-reach-spec = tie.close (tie.spec key-of-requires position-requires returns)
+reach-spec = tie.close (tie.spec (λ c κs. search needs) (λ c κs. search needs) returns)

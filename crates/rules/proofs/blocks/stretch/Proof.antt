@@ -19,12 +19,6 @@ mul-address c = omega (arith, listed-within (c .before .before .pre .0))
 shared-slice-read-address : tie.Need-shared-slice-read-address
 shared-slice-read-address c = omega (arith, listed-within (c .before .before .before .pre .0))
 
-address-requires : tie.Need-address-requires
-address-requires c κs = search needs
-
-cast-ahead : tie.Need-cast-ahead
-cast-ahead c = search needs
-
 sub-ahead : tie.Need-sub-ahead
 sub-ahead c = let s = c .before .before .before .before in omega (arith, s .pre .1 .above (s .args .at) (omega arith) (omega arith))
 
@@ -45,8 +39,8 @@ stretch-spec =
     returns
     mul-address
     shared-slice-read-address
-    address-requires
-    cast-ahead
+    (λ c κs. search needs)
+    (λ c. search needs)
     sub-ahead
     returns-2
     returns-3)

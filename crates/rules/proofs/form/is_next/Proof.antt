@@ -6,17 +6,11 @@ use borrow.Author.Needs.{needs}
 use Rattle.rules.proofs.form.is_next.Statement.{statement}
 use Rattle.rules.proofs.form.is_next.Tie as tie
 
-key-requires : tie.Need-key-requires
-key-requires c κs = search needs
-
 returns : tie.Need-returns
 returns c = let s = c .before .before .args in rw (lt-leb (s .low) (keyOf (prefixOf (s .word))) (omega arith))
-
-is-rule-requires : tie.Need-is-rule-requires
-is-rule-requires c κs = search needs
 
 returns-2 : tie.Need-returns-2
 returns-2 c = let s = c .before .before .before .args in rw (le-leb (s .low) (keyOf (prefixOf (s .word))) (omega arith)) (c .is-rule .ensures)
 
 pub is-next-spec : {M : Type 1} → statement M
-is-next-spec = tie.close (tie.spec key-requires returns is-rule-requires returns-2)
+is-next-spec = tie.close (tie.spec (λ c κs. search needs) returns (λ c κs. search needs) returns-2)

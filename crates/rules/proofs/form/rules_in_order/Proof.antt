@@ -21,34 +21,16 @@ abbrev μ-loop : tie.MeasureT-loop
 loop-holds : tie.Need-loop-holds Inv-loop μ-loop
 loop-holds c = counted-none _ _
 
-mul-word : tie.Need-mul-word Inv-loop μ-loop
-mul-word c = search needs
-
-shared-slice-read-word : tie.Need-shared-slice-read-word Inv-loop μ-loop
-shared-slice-read-word c = search needs
-
-is-next-requires : tie.Need-is-next-requires Inv-loop μ-loop
-is-next-requires c κs = search needs
-
 returns : tie.Need-returns Inv-loop μ-loop
 returns c =
     let inv = c .before .before .before .before .loop .inv in
     counted-stop inv (denies (next? inv) (sym (c .before .is-next .ensures) ∙ not-true _ (c .if1 .taken)))
-
-key-requires : tie.Need-key-requires Inv-loop μ-loop
-key-requires c κs = search needs
 
 add-low : tie.Need-add-low Inv-loop μ-loop
 add-low c =
     let at = c .before .before .before .before .before in
     let w : ℕ = getD (at .before .before .args .rules .now) (at .loop .i) 0 in
     omega (arith, word-room w (omega (arith, c .before .before .before .shared-slice-known2 .given (at .loop .i))))
-
-add-i : tie.Need-add-i Inv-loop μ-loop
-add-i c = search needs
-
-loop-less : tie.Need-loop-less Inv-loop μ-loop
-loop-less c = search needs
 
 loop-again : tie.Need-loop-again Inv-loop μ-loop
 loop-again c =
@@ -65,13 +47,13 @@ rules-in-order-spec =
     Inv-loop
     μ-loop
     loop-holds
-    mul-word
-    shared-slice-read-word
-    is-next-requires
+    (λ c. search needs)
+    (λ c. search needs)
+    (λ c κs. search needs)
     returns
-    key-requires
+    (λ c κs. search needs)
     add-low
-    add-i
-    loop-less
+    (λ c. search needs)
+    (λ c. search needs)
     loop-again
     returns-2)

@@ -7,12 +7,6 @@ use borrow.Author.Needs.{needs}
 use Rattle.rules.proofs.list.find.Statement.{statement}
 use Rattle.rules.proofs.list.find.Tie as tie
 
-key-of-requires : tie.Need-key-of-requires
-key-of-requires c κs = search needs
-
-position-requires : tie.Need-position-requires
-position-requires c κs = search needs
-
 returns : tie.Need-returns
 returns c =
     let s = c .before .before .before .before in
@@ -24,9 +18,6 @@ mul-key c = omega (arith, listed-within (c .before .before .before .before .pre 
 shared-slice-read-key : tie.Need-shared-slice-read-key
 shared-slice-read-key c = omega (arith, listed-within (c .before .before .before .before .before .pre .0))
 
-key-requires : tie.Need-key-requires
-key-requires c κs = search needs
-
 returns-2 : tie.Need-returns-2
 returns-2 c =
     let at = c .before .before .before in
@@ -37,10 +28,10 @@ pub find-spec : {M : Type 1} → statement M
 find-spec =
     tie.close
     (tie.spec
-    key-of-requires
-    position-requires
+    (λ c κs. search needs)
+    (λ c κs. search needs)
     returns
     mul-key
     shared-slice-read-key
-    key-requires
+    (λ c κs. search needs)
     returns-2)

@@ -18,27 +18,6 @@ abbrev μ-loop : tie.MeasureT-loop
 loop-holds : tie.Need-loop-holds Inv-loop μ-loop
 loop-holds c = raised-none _ _ _ (c .pre .0)
 
-sub-moved : tie.Need-sub-moved Inv-loop μ-loop
-sub-moved c = search needs
-
-mul-moved : tie.Need-mul-moved Inv-loop μ-loop
-mul-moved c = search needs
-
-slice-read-moved : tie.Need-slice-read-moved Inv-loop μ-loop
-slice-read-moved c = search needs
-
-mul-rules : tie.Need-mul-rules Inv-loop μ-loop
-mul-rules c = search needs
-
-slice-write-rules : tie.Need-slice-write-rules Inv-loop μ-loop
-slice-write-rules c = search needs
-
-sub-i : tie.Need-sub-i Inv-loop μ-loop
-sub-i c = search needs
-
-loop-less : tie.Need-loop-less Inv-loop μ-loop
-loop-less c = search needs
-
 -- the same by a store at an equal place
 stored-at : {ws : List ℕ} {n a j : ℕ} (vs : List ℕ) (i v k : ℕ) → Raised ws n a (set vs i v) j → k ≡ i → Raised ws n a (set vs k v) j
 stored-at {ws} {n} {a} {j} vs i v k r h = subst (λ (m : ℕ). Raised ws n a (set vs m v) j) (sym h) r
@@ -47,12 +26,6 @@ loop-again : tie.Need-loop-again Inv-loop μ-loop
 loop-again c =
     let at = c .before .before .loop in
     stored-at (at .rules) (at .i) _ _ (raised-more (at .inv) _ (omega arith) (omega arith) (c .before .before .before .pre .1)) (omega arith)
-
-mul-rules-2 : tie.Need-mul-rules-2 Inv-loop μ-loop
-mul-rules-2 c = search needs
-
-slice-write-rules-2 : tie.Need-slice-write-rules-2 Inv-loop μ-loop
-slice-write-rules-2 c = search needs
 
 same-length : tie.Need-same-length Inv-loop μ-loop
 same-length c = simp length-set (c .before .loop .inv .long)
@@ -67,15 +40,15 @@ insert-at-spec =
     Inv-loop
     μ-loop
     loop-holds
-    sub-moved
-    mul-moved
-    slice-read-moved
-    mul-rules
-    slice-write-rules
-    sub-i
-    loop-less
+    (λ c. search needs)
+    (λ c. search needs)
+    (λ c. search needs)
+    (λ c. search needs)
+    (λ c. search needs)
+    (λ c. search needs)
+    (λ c. search needs)
     loop-again
-    mul-rules-2
-    slice-write-rules-2
+    (λ c. search needs)
+    (λ c. search needs)
     same-length
     returns)

@@ -17,32 +17,14 @@ abbrev μ-loop : tie.MeasureT-loop
 loop-holds : tie.Need-loop-holds Inv-loop μ-loop
 loop-holds c = bracket-start _ _ _
 
-sub-middle : tie.Need-sub-middle Inv-loop μ-loop
-sub-middle c = search needs
-
-add-middle : tie.Need-add-middle Inv-loop μ-loop
-add-middle c = search needs
-
 mul-key : tie.Need-mul-key Inv-loop μ-loop
 mul-key c = omega (arith, listed-within (c .before .before .before .pre))
 
 shared-slice-read-key : tie.Need-shared-slice-read-key Inv-loop μ-loop
 shared-slice-read-key c = omega (arith, listed-within (c .before .before .before .before .pre))
 
-key-requires : tie.Need-key-requires Inv-loop μ-loop
-key-requires c κs = search needs
-
-add-low : tie.Need-add-low Inv-loop μ-loop
-add-low c = search needs
-
-loop-less : tie.Need-loop-less Inv-loop μ-loop
-loop-less c = search needs
-
 loop-again : tie.Need-loop-again Inv-loop μ-loop
 loop-again c = bracket-up (c .before .before .before .before .before .before .pre) (c .before .before .before .before .loop .inv) _ (omega arith) (omega arith) (omega arith)
-
-loop-less-2 : tie.Need-loop-less-2 Inv-loop μ-loop
-loop-less-2 c = search needs
 
 loop-again-2 : tie.Need-loop-again-2 Inv-loop μ-loop
 loop-again-2 c = bracket-down (c .before .before .before .before .before .before .pre) (c .before .before .before .before .loop .inv) _ (omega arith) (omega arith) (omega arith)
@@ -57,14 +39,14 @@ position-spec =
     Inv-loop
     μ-loop
     loop-holds
-    sub-middle
-    add-middle
+    (λ c. search needs)
+    (λ c. search needs)
     mul-key
     shared-slice-read-key
-    key-requires
-    add-low
-    loop-less
+    (λ c κs. search needs)
+    (λ c. search needs)
+    (λ c. search needs)
     loop-again
-    loop-less-2
+    (λ c. search needs)
     loop-again-2
     returns)

@@ -11,9 +11,6 @@ use Rattle.rules.proofs.Changes.{place-live, put-same, put-new}
 use Rattle.rules.proofs.list.put.Statement.{statement}
 use Rattle.rules.proofs.list.put.Tie as tie
 
-pack-requires : tie.Need-pack-requires
-pack-requires c κs = search needs
-
 mul-rules : tie.Need-mul-rules
 mul-rules c =
     let s = c .before .before .before .pre in
@@ -23,9 +20,6 @@ slice-write-rules : tie.Need-slice-write-rules
 slice-write-rules c =
     let s = c .before .before .before .pre in
     omega (arith, listed-within (s .0), place-live (s .0) (s .1 .1 .0 .formed) (s .1 .0) (c .if1 .taken) .0)
-
-same-length : tie.Need-same-length
-same-length c = search needs
 
 returns : tie.Need-returns
 returns c =
@@ -38,9 +32,6 @@ insert-at-requires c κs =
     let s = c .before .before .before .before .pre in
     let room = s .1 .1 .1 (c .before .if1 .left) in
     (omega (arith, s .1 .0 .position .within), omega (arith, s .1 .0 .position .within))
-
-same-length-2 : tie.Need-same-length-2
-same-length-2 c = search needs
 
 returns-2 : tie.Need-returns-2
 returns-2 c =
@@ -55,11 +46,11 @@ pub put-spec : {M : Type 1} → statement M
 put-spec =
     tie.close
     (tie.spec
-    pack-requires
+    (λ c κs. search needs)
     mul-rules
     slice-write-rules
-    same-length
+    (λ c. search needs)
     returns
     insert-at-requires
-    same-length-2
+    (λ c. search needs)
     returns-2)

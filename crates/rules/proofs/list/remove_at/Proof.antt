@@ -18,38 +18,8 @@ abbrev μ-loop : tie.MeasureT-loop
 loop-holds : tie.Need-loop-holds Inv-loop μ-loop
 loop-holds c = lowered-none _ _ _ (c .pre .0)
 
-sub-loop : tie.Need-sub-loop Inv-loop μ-loop
-sub-loop c = search needs
-
-add-next : tie.Need-add-next Inv-loop μ-loop
-add-next c = search needs
-
-mul-next : tie.Need-mul-next Inv-loop μ-loop
-mul-next c = search needs
-
-slice-read-next : tie.Need-slice-read-next Inv-loop μ-loop
-slice-read-next c = search needs
-
-mul-rules : tie.Need-mul-rules Inv-loop μ-loop
-mul-rules c = search needs
-
-slice-write-rules : tie.Need-slice-write-rules Inv-loop μ-loop
-slice-write-rules c = search needs
-
-add-i : tie.Need-add-i Inv-loop μ-loop
-add-i c = search needs
-
-loop-less : tie.Need-loop-less Inv-loop μ-loop
-loop-less c = search needs
-
 loop-again : tie.Need-loop-again Inv-loop μ-loop
 loop-again c = lowered-more (c .before .before .loop .inv) (c .before .before .before .pre .1) _ (omega arith) (omega arith)
-
-mul-rules-2 : tie.Need-mul-rules-2 Inv-loop μ-loop
-mul-rules-2 c = search needs
-
-slice-write-rules-2 : tie.Need-slice-write-rules-2 Inv-loop μ-loop
-slice-write-rules-2 c = search needs
 
 same-length : tie.Need-same-length Inv-loop μ-loop
 same-length c = simp length-set (c .before .loop .inv .long)
@@ -70,16 +40,16 @@ remove-at-spec =
     Inv-loop
     μ-loop
     loop-holds
-    sub-loop
-    add-next
-    mul-next
-    slice-read-next
-    mul-rules
-    slice-write-rules
-    add-i
-    loop-less
+    (λ c. search needs)
+    (λ c. search needs)
+    (λ c. search needs)
+    (λ c. search needs)
+    (λ c. search needs)
+    (λ c. search needs)
+    (λ c. search needs)
+    (λ c. search needs)
     loop-again
-    mul-rules-2
-    slice-write-rules-2
+    (λ c. search needs)
+    (λ c. search needs)
     same-length
     returns)

@@ -11,9 +11,6 @@ remove-at-requires c κs =
     let s = c .before .before .pre in
     (place-live (s .0) (s .1 .0) (s .1 .1 .0) (s .1 .1 .1) .0, listed-within (s .0))
 
-same-length : tie.Need-same-length
-same-length c = search needs
-
 returns : tie.Need-returns
 returns c =
     let at = c .before .before in
@@ -21,4 +18,4 @@ returns c =
     at .remove-at .ensures ∙ taken-out (s .0) (s .1 .0) (s .1 .1 .0) (s .1 .1 .1)
 
 pub take-out-spec : {M : Type 1} → statement M
-take-out-spec = tie.close (tie.spec remove-at-requires same-length returns)
+take-out-spec = tie.close (tie.spec remove-at-requires (λ c. search needs) returns)

@@ -7,26 +7,8 @@ use Rattle.runs.proofs.Covered.{run-on}
 use Rattle.runs.proofs.onward.asked.Statement.{statement}
 use Rattle.runs.proofs.onward.asked.Tie as tie
 
-longest-requires : tie.Need-longest-requires
-longest-requires c κs = search needs
-
-returns : tie.Need-returns
-returns c = search needs
-
-skip-ended-requires : tie.Need-skip-ended-requires
-skip-ended-requires c κs = search needs
-
-longest-requires-2 : tie.Need-longest-requires-2
-longest-requires-2 c κs = search needs
-
-returns-2 : tie.Need-returns-2
-returns-2 c = search needs
-
 next-requires : tie.Need-next-requires
 next-requires c κs = (c .before .before .before .before .before .pre .0, c .before .before .skip-ended .ensures .count (not-false _ (c .if2 .left)))
-
-lower-requires : tie.Need-lower-requires
-lower-requires c κs = search needs
 
 returns-3 : tie.Need-returns-3
 returns-3 c =
@@ -39,11 +21,11 @@ pub asked-spec : {M : Type 1} → statement M
 asked-spec =
     tie.close
     (tie.spec
-    longest-requires
-    returns
-    skip-ended-requires
-    longest-requires-2
-    returns-2
+    (λ c κs. search needs)
+    (λ c. search needs)
+    (λ c κs. search needs)
+    (λ c κs. search needs)
+    (λ c. search needs)
     next-requires
-    lower-requires
+    (λ c κs. search needs)
     returns-3)

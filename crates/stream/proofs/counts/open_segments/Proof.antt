@@ -16,17 +16,8 @@ abbrev μ-loop : tie.MeasureT-loop
 loop-holds : tie.Need-loop-holds Inv-loop μ-loop
 loop-holds c = counted-none _
 
-mul-one-if-used : tie.Need-mul-one-if-used Inv-loop μ-loop
-mul-one-if-used c = search needs
-
-shared-slice-read-one-if-used : tie.Need-shared-slice-read-one-if-used Inv-loop μ-loop
-shared-slice-read-one-if-used c = search needs
-
 cast-one-if-used : tie.Need-cast-one-if-used Inv-loop μ-loop
 cast-one-if-used c = omega (arith, c .shared-slice-known2 .given (c .before .before .loop .i))
-
-one-if-used-requires : tie.Need-one-if-used-requires Inv-loop μ-loop
-one-if-used-requires c κs = search needs
 
 loop-again : tie.Need-loop-again Inv-loop μ-loop
 loop-again c =
@@ -34,12 +25,6 @@ loop-again c =
 
 add-count : tie.Need-add-count Inv-loop μ-loop
 add-count c = omega (arith, loop-again c .small)
-
-add-i : tie.Need-add-i Inv-loop μ-loop
-add-i c = search needs
-
-loop-less : tie.Need-loop-less Inv-loop μ-loop
-loop-less c = search needs
 
 returns : tie.Need-returns Inv-loop μ-loop
 returns c = counted-all (c .loop-test .left) (c .before .loop .inv)
@@ -51,12 +36,12 @@ open-segments-spec =
     Inv-loop
     μ-loop
     loop-holds
-    mul-one-if-used
-    shared-slice-read-one-if-used
+    (λ c. search needs)
+    (λ c. search needs)
     cast-one-if-used
-    one-if-used-requires
+    (λ c κs. search needs)
     add-count
-    add-i
-    loop-less
+    (λ c. search needs)
+    (λ c. search needs)
     loop-again
     returns)

@@ -17,9 +17,6 @@ entry c = c .before .before .before .before
 abbrev at-segment : tie.After-slice-known5 → tie.After-segment
 at-segment c = c .before .before .before .before .before
 
-mul-pointer : tie.Need-mul-pointer
-mul-pointer c = search needs
-
 slice-read-pointer : tie.Need-slice-read-pointer
 slice-read-pointer c = let s = entry c in omega (arith, block-lent (s .pre .0 .ready) (s .pre .1))
 
@@ -36,37 +33,19 @@ fill-run-requires c κs =
     segment-within (s .pre .0 .ready .sized) (owns (s .pre .0) (s .pre .1)) (omega (arith, run .low)) (omega (arith, run .high))
     (omega (arith, run .low, run .high))
 
-mul-owners : tie.Need-mul-owners
-mul-owners c = search needs
-
 slice-write-owners : tie.Need-slice-write-owners
 slice-write-owners c =
     let k = at-segment c in
     let s = entry (k .before) in
     omega (arith, k .segment .ensures, owns (s .pre .0) (s .pre .1) .lent)
 
-mul-first : tie.Need-mul-first
-mul-first c = search needs
-
 slice-write-first : tie.Need-slice-write-first
 slice-write-first c = let s = entry (at-segment c .before) in omega (arith, block-lent (s .pre .0 .ready) (s .pre .1))
-
-differ-requires : tie.Need-differ-requires
-differ-requires c κs = search needs
 
 add-result : tie.Need-add-result
 add-result c =
     let sized = entry (at-segment (c .before) .before) .pre .0 .ready .sized in
     omega (arith, differs-small _ _ _ (c .differ .ensures), run-small (c .before .before .before .fill-run .ensures), sized .longs, sized .few)
-
-same-length : tie.Need-same-length
-same-length c = search needs
-
-same-length-2 : tie.Need-same-length-2
-same-length-2 c = search needs
-
-same-length-3 : tie.Need-same-length-3
-same-length-3 c = search needs
 
 returns : tie.Need-returns
 returns c =
@@ -81,18 +60,18 @@ pub close-spec : {M : Type 1} → statement M
 close-spec =
     tie.close
     (tie.spec
-    mul-pointer
+    (λ c. search needs)
     slice-read-pointer
     segment-requires
     segment-cells-requires
     fill-run-requires
-    mul-owners
+    (λ c. search needs)
     slice-write-owners
-    mul-first
+    (λ c. search needs)
     slice-write-first
-    differ-requires
+    (λ c κs. search needs)
     add-result
-    same-length
-    same-length-2
-    same-length-3
+    (λ c. search needs)
+    (λ c. search needs)
+    (λ c. search needs)
     returns)

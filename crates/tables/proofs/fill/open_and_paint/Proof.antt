@@ -20,60 +20,21 @@ at-run c = c .before .before .before .before .before
 run : (c : tie.After-run-of) → InSegment (c .before .segment-start .result) (c .run-of .result .from) (c .run-of .result .to) (now (entry c .args .long))
 run c = run-in-segment (entry c .pre .0) (entry c .pre .1) (c .before .segment-start .ensures) (c .run-of .ensures)
 
-mul-cell : tie.Need-mul-cell
-mul-cell c = search needs
-
 slice-read-cell : tie.Need-slice-read-cell
 slice-read-cell c =
     let s = c .before .before .before .before in
     omega (arith, block-in (s .pre .0) (s .pre .1))
 
-paint-cell-requires : tie.Need-paint-cell-requires
-paint-cell-requires c κs = search needs
-
-segment-start-requires : tie.Need-segment-start-requires
-segment-start-requires c κs = search needs
-
-run-of-requires : tie.Need-run-of-requires
-run-of-requires c κs = search needs
-
 fill-segment-requires : tie.Need-fill-segment-requires
 fill-segment-requires c κs = run (c .before)
-
-point-to-requires : tie.Need-point-to-requires
-point-to-requires c κs = search needs
-
-mul-first : tie.Need-mul-first
-mul-first c = search needs
 
 slice-write-first : tie.Need-slice-write-first
 slice-write-first c =
     let s = entry (at-run c) in
     omega (arith, block-in (s .pre .0) (s .pre .1))
 
-cast-owners : tie.Need-cast-owners
-cast-owners c = search needs
-
-add-owners : tie.Need-add-owners
-add-owners c = search needs
-
-mul-owners : tie.Need-mul-owners
-mul-owners c = search needs
-
-slice-write-owners : tie.Need-slice-write-owners
-slice-write-owners c = search needs
-
 add-result : tie.Need-add-result
 add-result c = omega (arith, run-small (c .before .before .before .fill-segment .ensures), run (at-run c) .small)
-
-same-length : tie.Need-same-length
-same-length c = search needs
-
-same-length-2 : tie.Need-same-length-2
-same-length-2 c = search needs
-
-same-length-3 : tie.Need-same-length-3
-same-length-3 c = search needs
 
 returns : tie.Need-returns
 returns c =
@@ -86,21 +47,21 @@ pub open-and-paint-spec : {M : Type 1} → statement M
 open-and-paint-spec =
     tie.close
     (tie.spec
-    mul-cell
+    (λ c. search needs)
     slice-read-cell
-    paint-cell-requires
-    segment-start-requires
-    run-of-requires
+    (λ c κs. search needs)
+    (λ c κs. search needs)
+    (λ c κs. search needs)
     fill-segment-requires
-    point-to-requires
-    mul-first
+    (λ c κs. search needs)
+    (λ c. search needs)
     slice-write-first
-    cast-owners
-    add-owners
-    mul-owners
-    slice-write-owners
+    (λ c. search needs)
+    (λ c. search needs)
+    (λ c. search needs)
+    (λ c. search needs)
     add-result
-    same-length
-    same-length-2
-    same-length-3
+    (λ c. search needs)
+    (λ c. search needs)
+    (λ c. search needs)
     returns)

@@ -32,12 +32,6 @@ add-to c = omega (arith, ready (c .before) .within, few-firsts (ready (c .before
 paint-blocks-requires : tie.Need-paint-blocks-requires
 paint-blocks-requires c κs = ready (c .before .before .before)
 
-same-length : tie.Need-same-length
-same-length c = search needs
-
-same-length-2 : tie.Need-same-length-2
-same-length-2 c = search needs
-
 returns : tie.Need-returns
 returns c =
     let at-paint = c .before .before .before .before in
@@ -74,9 +68,6 @@ paint-run-requires c κs =
     let k = at-segment .before .before in
     run-within (open-block k) (from (start k)) (at-segment .segment .ensures) (c .before .run-of .ensures)
 
-same-length-3 : tie.Need-same-length-3
-same-length-3 c = search needs
-
 returns-2 : tie.Need-returns-2
 returns-2 c =
     let at-run = c .before .before in
@@ -90,13 +81,13 @@ paint-spec =
     (tie.spec
     add-to
     paint-blocks-requires
-    same-length
-    same-length-2
+    (λ c. search needs)
+    (λ c. search needs)
     returns
     mul-segment
     slice-read-segment
     segment-requires
     run-of-requires
     paint-run-requires
-    same-length-3
+    (λ c. search needs)
     returns-2)

@@ -17,15 +17,6 @@ entry c = c .before .before .before .before .before .before
 owns : (c : tie.Then1) → let a = entry c .args in let T = tables (a .first) (a .long) (a .owners) in Owns T (a .block) (segmentAt T (a .block))
 owns c = owns-one (entry c .pre) (leb-true _ _ (sym (c .before .is-pointer .ensures) ∙ c .if1 .taken))
 
-mul-cell : tie.Need-mul-cell
-mul-cell c = search needs
-
-slice-read-cell : tie.Need-slice-read-cell
-slice-read-cell c = search needs
-
-is-pointer-requires : tie.Need-is-pointer-requires
-is-pointer-requires c κs = search needs
-
 segment-cells-requires : tie.Need-segment-cells-requires
 segment-cells-requires c κs = omega (arith, owns c .points)
 
@@ -35,30 +26,12 @@ paint-run-requires c κs =
     let run = c .before .segment-cells .ensures in
     segment-within (entry k .pre .sized) (owns k) (omega (arith, run .low)) (omega (arith, run .high)) (omega (arith, run .low, run .high))
 
-same-length : tie.Need-same-length
-same-length c = search needs
-
 returns : tie.Need-returns
 returns c =
     let at-run = c .before .before in
     let at-cells = at-run .before .before in
     let run = at-cells .segment-cells .ensures in
     block-points _ _ (owns (at-cells .before)) (omega (arith, run .low)) (omega (arith, run .high)) (at-run .paint-run .ensures)
-
-paint-cell-requires : tie.Need-paint-cell-requires
-paint-cell-requires c κs = search needs
-
-mul-first : tie.Need-mul-first
-mul-first c = search needs
-
-slice-write-first : tie.Need-slice-write-first
-slice-write-first c = search needs
-
-differ-requires : tie.Need-differ-requires
-differ-requires c κs = search needs
-
-same-length-2 : tie.Need-same-length-2
-same-length-2 c = search needs
 
 returns-2 : tie.Need-returns-2
 returns-2 c =
@@ -70,16 +43,16 @@ pub paint-block-spec : {M : Type 1} → statement M
 paint-block-spec =
     tie.close
     (tie.spec
-    mul-cell
-    slice-read-cell
-    is-pointer-requires
+    (λ c. search needs)
+    (λ c. search needs)
+    (λ c κs. search needs)
     segment-cells-requires
     paint-run-requires
-    same-length
+    (λ c. search needs)
     returns
-    paint-cell-requires
-    mul-first
-    slice-write-first
-    differ-requires
-    same-length-2
+    (λ c κs. search needs)
+    (λ c. search needs)
+    (λ c. search needs)
+    (λ c κs. search needs)
+    (λ c. search needs)
     returns-2)

@@ -6,7 +6,7 @@ use native.Mathlib.Omega.{arith}
 use borrow.Author.Needs.{needs}
 use Rattle.tables.specs.Cellwise.{paintCell}
 use Rattle.tables.specs.inner.Ranges.{BlocksChanged}
-use Rattle.tables.proofs.Changes.{tablesOf}
+use Rattle.cells.specs.Memory.{tablesOf}
 use Rattle.tables.proofs.Blocks.{blocks-none, few-blocks, blocks-then, ready-then, same-firsts, same-longs}
 use Rattle.tables.proofs.paint.paint_blocks.Statement.{statement}
 use Rattle.tables.proofs.paint.paint_blocks.Tie as tie
@@ -44,12 +44,6 @@ loop-again c = (
 add-changed : tie.Need-add-changed Inv-loop μ-loop
 add-changed c = record { fits = few-blocks (loop-again c .2) (entry (head c) .pre) }
 
-add-block : tie.Need-add-block Inv-loop μ-loop
-add-block c = search needs
-
-loop-less : tie.Need-loop-less Inv-loop μ-loop
-loop-less c = search needs
-
 same-length : tie.Need-same-length Inv-loop μ-loop
 same-length c = same-firsts (c .before .loop .inv .2)
 
@@ -68,8 +62,8 @@ paint-blocks-spec =
     loop-holds
     paint-block-requires
     add-changed
-    add-block
-    loop-less
+    (λ c. search needs)
+    (λ c. search needs)
     loop-again
     same-length
     same-length-2

@@ -11,9 +11,6 @@ use Rattle.tables.proofs.paint.paint_cell.Tie as tie
 returns : tie.Need-returns
 returns c = sym (paint-on _ _ _ (inl (omega arith)))
 
-length-requires : tie.Need-length-requires
-length-requires c κs = search needs
-
 returns-2 : tie.Need-returns-2
 returns-2 c = sym (paint-on _ _ _ (inr (omega arith)))
 
@@ -21,4 +18,4 @@ returns-3 : tie.Need-returns-3
 returns-3 c = sym (paint-off _ _ _ (⊎-elim (c .before .before .if1 .left) (λ h. omega arith)))
 
 pub paint-cell-spec : {M : Type 1} → statement M
-paint-cell-spec = tie.close (tie.spec returns length-requires returns-2 returns-3)
+paint-cell-spec = tie.close (tie.spec returns (λ c κs. search needs) returns-2 returns-3)

@@ -9,17 +9,8 @@ use borrow.Author.Needs.{needs}
 use Rattle.tables.proofs.place.addresses_of.Statement.{statement}
 use Rattle.tables.proofs.place.addresses_of.Tie as tie
 
-sub-result : tie.Need-sub-result
-sub-result c = search needs
-
-cast-result : tie.Need-cast-result
-cast-result c = search needs
-
-shl-result : tie.Need-shl-result
-shl-result c = search needs
-
 returns : tie.Need-returns
 returns c = let k = 32 - c .args .length in shl-exact {a = 1} 1 k 64 (lit< tt) (omega arith) ∙ one-mul (2 ^ k)
 
 pub addresses-of-spec : {M : Type 1} → statement M
-addresses-of-spec = tie.close (tie.spec sub-result cast-result shl-result returns)
+addresses-of-spec = tie.close (tie.spec (λ c. search needs) (λ c. search needs) (λ c. search needs) returns)

@@ -6,27 +6,12 @@ use borrow.Author.Needs.{needs}
 use Rattle.tables.proofs.place.run_of.Statement.{statement}
 use Rattle.tables.proofs.place.run_of.Tie as tie
 
-segment-start-requires : tie.Need-segment-start-requires
-segment-start-requires c κs = search needs
-
-cast-from : tie.Need-cast-from
-cast-from c = search needs
-
-add-from : tie.Need-add-from
-add-from c = search needs
-
-addresses-of-requires : tie.Need-addresses-of-requires
-addresses-of-requires c κs = search needs
-
 add-to : tie.Need-add-to
 add-to c =
     let s = c .before .before .before in
     omega (arith, pow-mono {i = 32 - s .args .prefix .length} {j = 7} (omega (arith, s .pre .1 .0)), c .addresses-of .ensures)
 
-returns : tie.Need-returns
-returns c = search needs
-
 pub run-of-spec : {M : Type 1} → statement M
 run-of-spec =
     tie.close
-    (tie.spec segment-start-requires cast-from add-from addresses-of-requires add-to returns)
+    (tie.spec (λ c κs. search needs) (λ c. search needs) (λ c. search needs) (λ c κs. search needs) add-to (λ c. search needs))

@@ -17,20 +17,8 @@ abbrev μ-loop : tie.MeasureT-loop
 loop-holds : tie.Need-loop-holds Inv-loop μ-loop
 loop-holds c = count-start (c .pre .ordered)
 
-mul-pointers : tie.Need-mul-pointers Inv-loop μ-loop
-mul-pointers c = search needs
-
-shared-slice-read-pointers : tie.Need-shared-slice-read-pointers Inv-loop μ-loop
-shared-slice-read-pointers c = search needs
-
 add-pointers : tie.Need-add-pointers Inv-loop μ-loop
 add-pointers c = omega (arith, c .shared-slice-known .given (c .before .before .loop .i), c .before .before .loop .inv .few, c .before .before .before .pre .few)
-
-add-i : tie.Need-add-i Inv-loop μ-loop
-add-i c = search needs
-
-loop-less : tie.Need-loop-less Inv-loop μ-loop
-loop-less c = search needs
 
 loop-again : tie.Need-loop-again Inv-loop μ-loop
 loop-again c = count-more (c .before .before .loop .inv) (omega arith) (omega (arith, c .shared-slice-known .given (c .before .before .loop .i)))
@@ -45,10 +33,10 @@ none-open-spec =
     Inv-loop
     μ-loop
     loop-holds
-    mul-pointers
-    shared-slice-read-pointers
+    (λ c. search needs)
+    (λ c. search needs)
     add-pointers
-    add-i
-    loop-less
+    (λ c. search needs)
+    (λ c. search needs)
     loop-again
     returns)

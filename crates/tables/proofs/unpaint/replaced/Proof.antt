@@ -5,9 +5,6 @@ use borrow.Author.Needs.{needs}
 use Rattle.tables.proofs.unpaint.replaced.Statement.{statement}
 use Rattle.tables.proofs.unpaint.replaced.Tie as tie
 
-stays-requires : tie.Need-stays-requires
-stays-requires c κs = search needs
-
 returns : tie.Need-returns
 returns c = sym (replaced-stay _ _ _ (sym (c .before .stays .ensures) ∙ c .if1 .taken))
 
@@ -15,4 +12,4 @@ returns-2 : tie.Need-returns-2
 returns-2 c = sym (replaced-new _ _ _ (sym (c .before .stays .ensures) ∙ c .if1 .left))
 
 pub replaced-spec : {M : Type 1} → statement M
-replaced-spec = tie.close (tie.spec stays-requires returns returns-2)
+replaced-spec = tie.close (tie.spec (λ c κs. search needs) returns returns-2)

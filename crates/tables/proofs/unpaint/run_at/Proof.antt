@@ -7,11 +7,5 @@ use Rattle.tables.proofs.unpaint.run_at.Tie as tie
 returns : tie.Need-returns
 returns c = record { past = omega arith; kept = search needs }
 
-asked-requires : tie.Need-asked-requires
-asked-requires c κs = search needs
-
-returns-2 : tie.Need-returns-2
-returns-2 c = search needs
-
 pub run-at-spec : {M : Type 1} → statement M
-run-at-spec = tie.close (tie.spec returns asked-requires returns-2)
+run-at-spec = tie.close (tie.spec returns (λ c κs. search needs) (λ c. search needs))

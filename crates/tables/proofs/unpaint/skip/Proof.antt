@@ -18,29 +18,8 @@ abbrev μ-loop : tie.MeasureT-loop
 loop-holds : tie.Need-loop-holds Inv-loop μ-loop
 loop-holds c = skip-start (c .before .pre .ordered)
 
-mul-stays : tie.Need-mul-stays Inv-loop μ-loop
-mul-stays c = search needs
-
-shared-slice-read-stays : tie.Need-shared-slice-read-stays Inv-loop μ-loop
-shared-slice-read-stays c = search needs
-
-stays-requires : tie.Need-stays-requires Inv-loop μ-loop
-stays-requires c κs = search needs
-
-returns : tie.Need-returns Inv-loop μ-loop
-returns c = search needs
-
-add-i : tie.Need-add-i Inv-loop μ-loop
-add-i c = search needs
-
-loop-less : tie.Need-loop-less Inv-loop μ-loop
-loop-less c = search needs
-
 loop-again : tie.Need-loop-again Inv-loop μ-loop
 loop-again c = skip-more (c .before .before .before .before .loop .inv) (omega arith) (sym (c .before .stays .ensures) ∙ not-false _ (c .if1 .left))
-
-returns-2 : tie.Need-returns-2 Inv-loop μ-loop
-returns-2 c = search needs
 
 pub skip-spec : {M : Type 1} → statement M
 skip-spec =
@@ -49,11 +28,11 @@ skip-spec =
     Inv-loop
     μ-loop
     loop-holds
-    mul-stays
-    shared-slice-read-stays
-    stays-requires
-    returns
-    add-i
-    loop-less
+    (λ c. search needs)
+    (λ c. search needs)
+    (λ c κs. search needs)
+    (λ c. search needs)
+    (λ c. search needs)
+    (λ c. search needs)
     loop-again
-    returns-2)
+    (λ c. search needs))

@@ -10,9 +10,6 @@ use borrow.Author.Needs.{needs}
 use Rattle.tables.proofs.unpaint.stays.Statement.{statement}
 use Rattle.tables.proofs.unpaint.stays.Tie as tie
 
-length-requires : tie.Need-length-requires
-length-requires c κs = search needs
-
 returns : tie.Need-returns
 returns c = sym (passes (stays? _ _) (λ g. g .0 (omega arith)))
 
@@ -20,4 +17,4 @@ returns-2 : tie.Need-returns-2
 returns-2 c = ap (λ (x : ℕ). not (eqb x (c .before .before .args .length))) (c .before .length .ensures) ∙ stays-other _ _ (c .if1 .left)
 
 pub stays-spec : {M : Type 1} → statement M
-stays-spec = tie.close (tie.spec length-requires returns returns-2)
+stays-spec = tie.close (tie.spec (λ c κs. search needs) returns returns-2)

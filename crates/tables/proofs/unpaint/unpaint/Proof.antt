@@ -26,9 +26,6 @@ entry c = c .before .before .before .before .before
 from : (s : tie.Start) → s .args .blocks .from ≡ blockOf (s .args .territory) (s .args .prefix .address)
 from s = ap (λ (x : Blocks). x .from) (s .pre .1 .0)
 
-longest-requires : tie.Need-longest-requires
-longest-requires c κs = search needs
-
 -- ---- a prefix of length up to 24
 
 ready : (c : tie.Then1) → let a = entry (c .before) .args in
@@ -45,12 +42,6 @@ unpaint-blocks-requires c κs =
     let pre = s .pre .0 .ready in
     let start = starts (pre .sized .territory) (pre .formed) (pre .inside) (k .if1 .taken) in
     (ready k, record { listed = s .pre .1 .1; kept = kept-later (omega (arith, from s)) (k .before .longest .ensures .kept) })
-
-same-length : tie.Need-same-length
-same-length c = search needs
-
-same-length-2 : tie.Need-same-length-2
-same-length-2 c = search needs
 
 returns : tie.Need-returns
 returns c =
@@ -90,9 +81,6 @@ unpaint-run-requires c κs =
       (omega (arith, run .high, small), record { listed = s .pre .1 .1; kept = k .before .longest .ensures .kept }),
     )
 
-same-length-3 : tie.Need-same-length-3
-same-length-3 c = search needs
-
 returns-2 : tie.Need-returns-2
 returns-2 c =
     let at-run = c .before .before in
@@ -108,16 +96,16 @@ pub unpaint-spec : {M : Type 1} → statement M
 unpaint-spec =
     tie.close
     (tie.spec
-    longest-requires
+    (λ c κs. search needs)
     add-to
     unpaint-blocks-requires
-    same-length
-    same-length-2
+    (λ c. search needs)
+    (λ c. search needs)
     returns
     mul-segment
     slice-read-segment
     segment-requires
     run-of-requires
     unpaint-run-requires
-    same-length-3
+    (λ c. search needs)
     returns-2)

@@ -6,7 +6,7 @@ use native.Mathlib.Omega.{arith}
 use Rattle.rules.specs.Rules.{routes}
 use Rattle.runs.proofs.Covered.{kept-later}
 use Rattle.tables.specs.inner.Unpaint.{BlocksUnpainted}
-use Rattle.tables.proofs.Changes.{tablesOf}
+use Rattle.cells.specs.Memory.{tablesOf}
 use Rattle.tables.proofs.Blocks.{blocks-none, few-blocks, blocks-then, ready-then, same-firsts, same-longs}
 use Rattle.tables.proofs.Unpainting.{blocks-passed}
 use Rattle.tables.proofs.unpaint.unpaint_blocks.Statement.{statement}

@@ -20,9 +20,6 @@ Inv-loop cells₀ from to start rules live length changed₀ kept₀ i₀ cells 
 abbrev μ-loop : tie.MeasureT-loop
 μ-loop cells₀ from to start rules live length changed₀ kept₀ i₀ cells changed kept i = to - i
 
-skip-requires : tie.Need-skip-requires Inv-loop μ-loop
-skip-requires c κs = search needs
-
 loop-holds : tie.Need-loop-holds Inv-loop μ-loop
 loop-holds c =
     let s = c .before .before .before .before in
@@ -32,47 +29,14 @@ loop-holds c =
       kept-later (omega arith) (s .pre .1 .1 .kept),
     )
 
-sub-address : tie.Need-sub-address Inv-loop μ-loop
-sub-address c = search needs
-
-cast-address : tie.Need-cast-address Inv-loop μ-loop
-cast-address c = search needs
-
-add-address : tie.Need-add-address Inv-loop μ-loop
-add-address c = search needs
-
 run-at-requires : tie.Need-run-at-requires Inv-loop μ-loop
 run-at-requires c κs = record { listed = c .before .before .before .before .before .before .pre .1 .1 .listed; kept = c .before .loop .inv .1 }
-
-sub-reach : tie.Need-sub-reach Inv-loop μ-loop
-sub-reach c = search needs
-
-cast-reach : tie.Need-cast-reach Inv-loop μ-loop
-cast-reach c = search needs
-
-sub-reach-2 : tie.Need-sub-reach-2 Inv-loop μ-loop
-sub-reach-2 c = search needs
-
-reach-requires : tie.Need-reach-requires Inv-loop μ-loop
-reach-requires c κs = search needs
-
-add-stop : tie.Need-add-stop Inv-loop μ-loop
-add-stop c = search needs
-
-replace-run-requires : tie.Need-replace-run-requires Inv-loop μ-loop
-replace-run-requires c κs = search needs
 
 add-changed : tie.Need-add-changed Inv-loop μ-loop
 add-changed c =
     let at-loop = c .before .before .before .before .before .before .before .before in
     let all = at-loop .before .before .before .before .before .pre .0 in
     omega (arith, at-loop .loop .inv .0 .few, c .before .before .replace-run .ensures .few, all .few, c .before .before .before .before .reach .ensures .few)
-
-skip-requires-2 : tie.Need-skip-requires-2 Inv-loop μ-loop
-skip-requires-2 c κs = search needs
-
-loop-less : tie.Need-loop-less Inv-loop μ-loop
-loop-less c = search needs
 
 loop-again : tie.Need-loop-again Inv-loop μ-loop
 loop-again c =
@@ -90,9 +54,6 @@ loop-again c =
       kept-later (omega (arith, passed .low, reached .some)) (found .kept),
     )
 
-same-length : tie.Need-same-length Inv-loop μ-loop
-same-length c = search needs
-
 returns : tie.Need-returns Inv-loop μ-loop
 returns c = let inv = c .before .loop .inv in record { changed = finish (c .loop-test .left) (inv .0); kept = kept-later (omega arith) (inv .1) }
 
@@ -102,21 +63,21 @@ unpaint-run-spec =
     (tie.spec
     Inv-loop
     μ-loop
-    skip-requires
+    (λ c κs. search needs)
     loop-holds
-    sub-address
-    cast-address
-    add-address
+    (λ c. search needs)
+    (λ c. search needs)
+    (λ c. search needs)
     run-at-requires
-    sub-reach
-    cast-reach
-    sub-reach-2
-    reach-requires
-    add-stop
-    replace-run-requires
+    (λ c. search needs)
+    (λ c. search needs)
+    (λ c. search needs)
+    (λ c κs. search needs)
+    (λ c. search needs)
+    (λ c κs. search needs)
     add-changed
-    skip-requires-2
-    loop-less
+    (λ c κs. search needs)
+    (λ c. search needs)
     loop-again
-    same-length
+    (λ c. search needs)
     returns)

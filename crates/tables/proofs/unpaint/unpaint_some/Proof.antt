@@ -45,15 +45,6 @@ direct c = leb-false _ _ (sym (c .before .is-pointer .ensures) ∙ c .if1 .left)
 block-start-requires : tie.Need-block-start-requires
 block-start-requires c κs = omega (arith, end (c .before .before .before .before))
 
-mul-cell : tie.Need-mul-cell
-mul-cell c = search needs
-
-slice-read-cell : tie.Need-slice-read-cell
-slice-read-cell c = search needs
-
-is-pointer-requires : tie.Need-is-pointer-requires
-is-pointer-requires c κs = search needs
-
 segment-cells-requires : tie.Need-segment-cells-requires
 segment-cells-requires c κs = omega (arith, owns c .points)
 
@@ -65,12 +56,6 @@ unpaint-run-requires c κs =
       segment-within (s .pre .0 .sized) (owns k) (omega (arith, run .low)) (omega (arith, run .high)) (omega (arith, run .low, run .high)),
       (omega (arith, run .high, begun k .block-start .ensures, end s), asking (begun k)),
     )
-
-add-t24 : tie.Need-add-t24
-add-t24 c = search needs
-
-same-length : tie.Need-same-length
-same-length c = search needs
 
 returns : tie.Need-returns
 returns c =
@@ -93,12 +78,6 @@ returns c =
 run-at-requires : tie.Need-run-at-requires
 run-at-requires c κs = asking (c .before .before .before)
 
-cast-piece : tie.Need-cast-piece
-cast-piece c = search needs
-
-sub-piece : tie.Need-sub-piece
-sub-piece c = search needs
-
 piece-requires : tie.Need-piece-requires
 piece-requires c κs =
     let at-else = c .before .before .before in
@@ -112,9 +91,6 @@ replace-run-requires c κs =
     let piece = c .before .piece .ensures in
     let s = c .before .before .before .before .before .before .before .before .before .before .before .before .before in
     record { ordered = omega (arith, piece .some); inside = omega (arith, piece .within, s .pre .0 .within); few = omega (arith, piece .few) }
-
-same-length-2 : tie.Need-same-length-2
-same-length-2 c = search needs
 
 returns-2 : tie.Need-returns-2
 returns-2 c =
@@ -139,18 +115,18 @@ unpaint-some-spec =
     tie.close
     (tie.spec
     block-start-requires
-    mul-cell
-    slice-read-cell
-    is-pointer-requires
+    (λ c. search needs)
+    (λ c. search needs)
+    (λ c κs. search needs)
     segment-cells-requires
     unpaint-run-requires
-    add-t24
-    same-length
+    (λ c. search needs)
+    (λ c. search needs)
     returns
     run-at-requires
-    cast-piece
-    sub-piece
+    (λ c. search needs)
+    (λ c. search needs)
     piece-requires
     replace-run-requires
-    same-length-2
+    (λ c. search needs)
     returns-2)

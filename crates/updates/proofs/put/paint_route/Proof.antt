@@ -1,6 +1,6 @@
 -- `put::paint_route` meets its contract: where a segment is opened for the block it is opened and painted, and else the cells are painted
 -- where they stand. Assumes nothing.
-use mathlib.Core.Path.{_≡_, sym, ap, _∙_}
+use mathlib.Core.Path.{sym, ap, _∙_}
 use native.Mathlib.Omega.{arith}
 use Rattle.prefix.specs.declared.geometry.Blocks.{Blocks}
 use Rattle.prefix.specs.Routes.{Route}
@@ -27,15 +27,6 @@ open-and-paint-requires c κs =
     let P = at-then .before .before .before .before .before .pre in
     (openable P (at-then .if1 .taken), ap (λ (x : Blocks). x .from) (P .touches))
 
-same-length : tie.Need-same-length
-same-length c = search needs
-
-same-length-2 : tie.Need-same-length-2
-same-length-2 c = search needs
-
-same-length-3 : tie.Need-same-length-3
-same-length-3 c = search needs
-
 returns : tie.Need-returns
 returns c =
     let done = c .before .before .before .before .before .before in
@@ -51,15 +42,6 @@ paint-requires c κs =
     let P = at-else .before .before .before .before .before .pre in
     (repaintable P (at-else .if1 .left), P .touches)
 
-same-length-4 : tie.Need-same-length-4
-same-length-4 c = search needs
-
-same-length-5 : tie.Need-same-length-5
-same-length-5 c = search needs
-
-same-length-6 : tie.Need-same-length-6
-same-length-6 c = search needs
-
 returns-2 : tie.Need-returns-2
 returns-2 c =
     let done = c .before .before .before .before in
@@ -73,12 +55,12 @@ paint-route-spec =
     (tie.spec
     pack-requires
     open-and-paint-requires
-    same-length
-    same-length-2
-    same-length-3
+    (λ c. search needs)
+    (λ c. search needs)
+    (λ c. search needs)
     returns
     paint-requires
-    same-length-4
-    same-length-5
-    same-length-6
+    (λ c. search needs)
+    (λ c. search needs)
+    (λ c. search needs)
     returns-2)

@@ -1,6 +1,6 @@
 -- `put::put_checked` meets its contract: a refusal writes nothing, and else the tables are painted, and the route is put at its place among
 -- the rules, which painting leaves as they are. Assumes nothing.
-use mathlib.Core.Path.{_≡_, _∙_}
+use mathlib.Core.Path.{_≡_}
 use native.Mathlib.Omega.{arith}
 use Rattle.prefix.specs.Routes.{puts}
 use Rattle.cells.specs.Memory.{Lent, lent}
@@ -37,18 +37,6 @@ put-requires c κs =
     let P = puttable (c .before .before .before .before .before .before .before .before .before .before .before .before .before) in
     (P .listed, (P .place, (P .paintable .route, P .room)))
 
-same-length : tie.Need-same-length
-same-length c = search needs
-
-same-length-2 : tie.Need-same-length-2
-same-length-2 c = search needs
-
-same-length-3 : tie.Need-same-length-3
-same-length-3 c = search needs
-
-same-length-4 : tie.Need-same-length-4
-same-length-4 c = search needs
-
 returns-2 : tie.Need-returns-2
 unfolding retabled
 returns-2 c =
@@ -65,8 +53,8 @@ put-checked-spec =
     returns
     paint-route-requires
     put-requires
-    same-length
-    same-length-2
-    same-length-3
-    same-length-4
+    (λ c. search needs)
+    (λ c. search needs)
+    (λ c. search needs)
+    (λ c. search needs)
     returns-2)

@@ -1,11 +1,10 @@
 -- `take::take_checked` meets its contract: a refusal writes nothing; and once the prefix is out of the rules, the routes that they stand for
 -- are those that are left. Assumes nothing.
-use mathlib.Core.Path.{_≡_, ap, subst, _∙_}
+use mathlib.Core.Path.{_≡_, ap, _∙_}
 use mathlib.Core.List.{List}
 use native.Mathlib.Omega.{arith}
 use Rattle.prefix.specs.Routes.{Route, takes}
 use Rattle.cells.specs.Memory.{Lent, lent}
-use Rattle.rules.specs.Rules.{routes}
 use Rattle.tables.specs.Changes.{left, leaves}
 use Rattle.updates.specs.Effects.{effect, retabled, unpainted}
 use Rattle.updates.specs.inner.Steps.{Takable}
@@ -44,18 +43,6 @@ unpaint-or-close-requires c κs =
     let A = takable (out .before .before .before .before) in
     (A .repaintable, (left-listed A (out .take-out .ensures) (omega (arith, left-count A)), A .touches))
 
-same-length : tie.Need-same-length
-same-length c = search needs
-
-same-length-2 : tie.Need-same-length-2
-same-length-2 c = search needs
-
-same-length-3 : tie.Need-same-length-3
-same-length-3 c = search needs
-
-same-length-4 : tie.Need-same-length-4
-same-length-4 c = search needs
-
 returns-2 : tie.Need-returns-2
 unfolding retabled
 returns-2 c =
@@ -77,8 +64,8 @@ take-checked-spec =
     take-out-requires
     sub-unpaint-or-close
     unpaint-or-close-requires
-    same-length
-    same-length-2
-    same-length-3
-    same-length-4
+    (λ c. search needs)
+    (λ c. search needs)
+    (λ c. search needs)
+    (λ c. search needs)
     returns-2)

@@ -1,10 +1,9 @@
 -- `take::unpaint_or_close` meets its contract: where the block closes, what is repainted before does not show, and else the cells are
 -- repainted. Assumes nothing.
 use mathlib.Core.Path.{_≡_, sym, ap, _∙_}
-use Prim.Native.Nat.{_%_, _^_, _<_}
 use native.Mathlib.Omega.{arith}
 use Rattle.prefix.specs.declared.geometry.Blocks.{Blocks}
-use Rattle.prefix.specs.Geometry.{blockSize, blockOf, blockStart}
+use Rattle.prefix.specs.Geometry.{blockOf}
 use Rattle.prefix.proofs.Prefixes.{in-range}
 use Rattle.prefix.proofs.Spans.{aligned}
 use Rattle.cells.specs.Memory.{Tables, tables}
@@ -41,24 +40,12 @@ closing c =
     let s = c .before .before .before .before .before .before in
     closes-here (s .pre .0) (routes (s .args .rules .now)) (own-block s) (c .before .block-start .ensures) (c .closes-block .ensures)
 
-longest-requires : tie.Need-longest-requires
-longest-requires c κs = search needs
-
 close-requires : tie.Need-close-requires
 close-requires c κs =
     let at-then = c .before .before .before .before in
     let k = at-then .before in
     let s = k .before .before .before .before .before .before in
     (closable (s .pre .0) (routes (s .args .rules .now)) (own-block s) (k .before .block-start .ensures) (sym (closing k) ∙ at-then .if1 .taken), own-block s)
-
-same-length : tie.Need-same-length
-same-length c = search needs
-
-same-length-2 : tie.Need-same-length-2
-same-length-2 c = search needs
-
-same-length-3 : tie.Need-same-length-3
-same-length-3 c = search needs
 
 returns : tie.Need-returns
 returns c =
@@ -71,15 +58,6 @@ returns c =
 
 unpaint-requires : tie.Need-unpaint-requires
 unpaint-requires c κs = let s = c .before .before .before .before .before .before .before .before .before .before .pre in (s .0, (s .1 .1, s .1 .0))
-
-same-length-4 : tie.Need-same-length-4
-same-length-4 c = search needs
-
-same-length-5 : tie.Need-same-length-5
-same-length-5 c = search needs
-
-same-length-6 : tie.Need-same-length-6
-same-length-6 c = search needs
 
 returns-2 : tie.Need-returns-2
 returns-2 c =
@@ -95,14 +73,14 @@ unpaint-or-close-spec =
     (tie.spec
     block-start-requires
     closes-block-requires
-    longest-requires
+    (λ c κs. search needs)
     close-requires
-    same-length
-    same-length-2
-    same-length-3
+    (λ c. search needs)
+    (λ c. search needs)
+    (λ c. search needs)
     returns
     unpaint-requires
-    same-length-4
-    same-length-5
-    same-length-6
+    (λ c. search needs)
+    (λ c. search needs)
+    (λ c. search needs)
     returns-2)

@@ -7,17 +7,11 @@ use borrow.Author.Needs.{needs}
 use Rattle.cells.proofs.cell.Cell.is_direct.Statement.{statement}
 use Rattle.cells.proofs.cell.Cell.is_direct.Tie as tie
 
-hop-requires : tie.Need-hop-requires
-hop-requires c κs = search needs
-
 returns : tie.Need-returns
 returns c = let s = c .before .before .args in sym (stops (isDirect? (s .longest) (s .cell)) (λ d. omega (arith, d .some-hop)))
 
 returns-2 : tie.Need-returns-2
 returns-2 c = let s = c .before .before .before .args in sym (stops (isDirect? (s .longest) (s .cell)) (λ d. omega (arith, d .hop-fits)))
-
-length-requires : tie.Need-length-requires
-length-requires c κs = search needs
 
 returns-3 : tie.Need-returns-3
 returns-3 c =
@@ -27,4 +21,4 @@ returns-3 c =
     (λ h. record { some-hop = omega arith; hop-fits = omega arith; length-fits = omega arith }))
 
 pub is-direct-spec : {M : Type 1} → statement M
-is-direct-spec = tie.close (tie.spec hop-requires returns returns-2 length-requires returns-3)
+is-direct-spec = tie.close (tie.spec (λ c κs. search needs) returns returns-2 (λ c κs. search needs) returns-3)

@@ -6,11 +6,8 @@ use Rattle.rules.proofs.Words.{route-is}
 use Rattle.rules.proofs.word.Rule.address.Statement.{statement}
 use Rattle.rules.proofs.word.Rule.address.Tie as tie
 
-cast-result : tie.Need-cast-result
-cast-result c = search needs
-
 returns : tie.Need-returns
 returns c = ap (λ (r : Route). r .prefix .address) (route-is (c .args .word))
 
 pub address-spec : {M : Type 1} → statement M
-address-spec = tie.close (tie.spec cast-result returns)
+address-spec = tie.close (tie.spec (λ c. search needs) returns)

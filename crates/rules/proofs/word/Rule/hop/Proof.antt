@@ -6,11 +6,8 @@ use Rattle.rules.proofs.Words.{route-is}
 use Rattle.rules.proofs.word.Rule.hop.Statement.{statement}
 use Rattle.rules.proofs.word.Rule.hop.Tie as tie
 
-cast-result : tie.Need-cast-result
-cast-result c = search needs
-
 returns : tie.Need-returns
 returns c = ap (λ (r : Route). r .hop) (route-is (c .args .word))
 
 pub hop-spec : {M : Type 1} → statement M
-hop-spec = tie.close (tie.spec cast-result returns)
+hop-spec = tie.close (tie.spec (λ c. search needs) returns)

@@ -8,9 +8,6 @@ use Rattle.rules.proofs.Words.{isRule?, rule-clear, rule-inside}
 use Rattle.rules.proofs.word.Rule.is_rule.Statement.{statement}
 use Rattle.rules.proofs.word.Rule.is_rule.Tie as tie
 
-hop-requires : tie.Need-hop-requires
-hop-requires c κs = search needs
-
 returns : tie.Need-returns
 returns c =
     let s = c .before .before .args in
@@ -20,9 +17,6 @@ returns-2 : tie.Need-returns-2
 returns-2 c =
     let s = c .before .before .before .args in
     sym (stops (isRule? (s .territory) (s .word)) (λ r. omega (arith, r .route .hop-fits)))
-
-length-requires : tie.Need-length-requires
-length-requires c κs = search needs
 
 returns-3 : tie.Need-returns-3
 returns-3 c =
@@ -34,21 +28,12 @@ returns-4 c =
     let s = c .before .before .before .before .before .before .before .args in
     sym (stops (isRule? (s .territory) (s .word)) (λ r. omega (arith, r .inside .longer)))
 
-address-requires : tie.Need-address-requires
-address-requires c κs = search needs
-
-cleared-requires : tie.Need-cleared-requires
-cleared-requires c κs = search needs
-
 returns-5 : tie.Need-returns-5
 returns-5 c =
     let s = c .before .before .before .before .before .before .before .before .before .before .args in
     let at = c .before .before in
     sym (stops (isRule? (s .territory) (s .word)) (λ r.
     c .if5 .taken (rule-clear (s .territory) (s .word) _ _ _ (at .address .ensures) (at .before .before .before .before .length .ensures) (c .before .cleared .ensures) r)))
-
-cleared-requires-2 : tie.Need-cleared-requires-2
-cleared-requires-2 c κs = search needs
 
 returns-6 : tie.Need-returns-6
 returns-6 c =
@@ -63,14 +48,14 @@ pub is-rule-spec : {M : Type 1} → statement M
 is-rule-spec =
     tie.close
     (tie.spec
-    hop-requires
+    (λ c κs. search needs)
     returns
     returns-2
-    length-requires
+    (λ c κs. search needs)
     returns-3
     returns-4
-    address-requires
-    cleared-requires
+    (λ c κs. search needs)
+    (λ c κs. search needs)
     returns-5
-    cleared-requires-2
+    (λ c κs. search needs)
     returns-6)
