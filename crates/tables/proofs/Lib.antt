@@ -6,6 +6,5 @@ pub mod Blocks
 pub mod Repaints
 pub mod Filling
 pub mod Cellwise
-pub mod Unpainting
 pub mod Opening
 pub mod Closing

@@ -24,7 +24,6 @@ use refusals::codes::Checked;
 use rules::blocks::is_open;
 use rules::list;
 use tables::fill;
-use tables::unpaint;
 
 // Whether a prefix of this length closes the block that starts at the address: it is longer than 24, and no rule that is left is longer
 // than 24 in the block.

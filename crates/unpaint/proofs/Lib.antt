@@ -1,0 +1,2 @@
+-- Laws of a withdrawal's repaint.
+pub mod Unpainting

@@ -1,0 +1,2 @@
+-- What the loops of a withdrawal require and leave.
+pub mod Unpaint
