@@ -1,6 +1,3 @@
-// What the upstreams cost: the line of a hop, and the sheet of all hops, dearest first.
-mod heap;
+// What the upstreams cost: the line of a hop, and which of two hops ranks before the other.
 pub mod line;
-mod order;
-mod quick;
-pub mod sheet;
+pub mod order;

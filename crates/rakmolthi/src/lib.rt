@@ -4,7 +4,7 @@ ghost use mathlib.Core.Path.{_≡_};
 ghost use Rattle.bulk.specs.All.{allOf};
 ghost use Rattle.lookup.specs.Bytes.{lookUpBytes};
 ghost use Rattle.costs.specs.Lines.{lineOf, valuesOf};
-ghost use Rattle.costs.specs.Sheet.{SheetIs};
+ghost use Rattle.sheet.specs.Sheet.{SheetIs};
 ghost use Rattle.octets.specs.Booking.{clearOctets, book};
 ghost use Rattle.octets.specs.Many.{bookAll};
 ghost use Rattle.records.specs.Record.{readAs, Writes};
@@ -227,5 +227,5 @@ pub extern "C" fn rk_cost_line(octets: &[u64], cents: &[u64], hop: u32) -> Value
 pub extern "C" fn rk_cost_sheet(octets: &[u64], cents: &[u64], hops: &mut [u32]) -> u32
     ensures { λ r. ⌜ SheetIs (now (octets .entry)) (now (cents .entry)) (now (hops .entry)) r (now (hops .exit)) ⌝ }
 {
-    costs::sheet::cost_sheet(octets, cents, hops)
+    sheet::cost_sheet(octets, cents, hops)
 }

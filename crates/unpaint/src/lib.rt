@@ -15,14 +15,14 @@ ghost use Rattle.tables.specs.inner.Ranges.{Within, BlocksReady};
 ghost use Rattle.unpaint.specs.inner.Unpaint.{Asking, Found, stays, replaced, RunReplaced};
 ghost use Rattle.unpaint.specs.inner.Unpaint.{Inside, Skipped, Closed, SkippedClosed, ReachIs, FitIs, PieceIs};
 ghost use Rattle.unpaint.specs.inner.Unpaint.{RunUnpainted, BlocksUnpainted, SomeUnpainted};
-use tables::paint;
-use tables::place;
 use cells::cell::Cell;
 use prefix::Prefix;
 use prefix::geometry::Block;
 use prefix::geometry::Blocks;
 use prefix::geometry::block_start;
 use runs::Run;
+use tables::paint;
+use tables::place;
 
 // How many cells differ, and the run that then holds.
 pub struct Tally {
