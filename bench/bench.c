@@ -478,7 +478,7 @@ static void time_default_route(struct memory m, int rules, const char *over) {
     char put[96], taken[96];
     sprintf(put, "announce 0.0.0.0/0%s", over), sprintf(taken, "withdraw 0.0.0.0/0%s", over);
     row(put, rules, "plain C repaint", t[0], t[2], 6);
-    row(taken, rules, "plain C repaint", t[1], t[3], 6);
+    row(taken, rules, "plain C repaint", t[1], t[3], 3);
 #ifdef DPDK
     row(put, rules, "rte_lpm_add of both /1", t[0], t[4], 0);
     row(taken, rules, "rte_lpm_delete of both /1", t[1], t[5], 0);
@@ -541,8 +541,9 @@ static void time_updates(void) {
     give_back(m);
 }
 
-/* Lists that make a withdrawal of /0 search as much as can be: each rule ends a run of cells that the /0 decides, and past each end the
- * search climbs over the rules on its left, one step for each bit of the address that is 1 with a rule on its 0 side. */
+/* Lists that make a withdrawal of /0 work as much as can be: each rule ends a run of cells that the /0 decides. In the first five, a search
+ * from the end of each run would climb over the rules on its left, one step for each bit of the address that is 1 with a rule on its 0
+ * side; in the others, runs are short, rules stand inside others, and several end together. */
 static void hard_rule(struct memory m, uint32_t address, uint32_t length) {
     if (announce(m, RULES, address, length, 7) || peer_add(address, length, 7)) fail("announce");
 }
@@ -577,13 +578,36 @@ static void more_ones(struct memory m) {
     }
 }
 
+static void pairs(struct memory m) {
+    for (uint32_t k = 0; k < RULES / 2 - 1; k++) hard_rule(m, (k << 17) + 1, 32), hard_rule(m, (k << 17) + 3, 32);
+}
+static void covered_pairs(struct memory m) {
+    for (uint32_t k = 0; k < RULES / 2 - 1; k++) hard_rule(m, k << 17, 16), hard_rule(m, (k << 17) + 0x8001, 32);
+}
+static void half_covered(struct memory m) {
+    for (uint32_t k = 0; k < RULES / 2; k++) hard_rule(m, k << 17, 16);
+    for (uint32_t k = 0; k < RULES / 2 - 1; k++) hard_rule(m, (k << 17) + 0x18001, 32);
+}
+static void chains(struct memory m) {
+    for (uint32_t k = 0; k < RULES / 16 - 1; k++)
+        for (uint32_t length = 17; length <= 32; length++) hard_rule(m, k << 20, length);
+}
+static void every_second(struct memory m) {
+    for (uint32_t k = 0; k < RULES - 1; k++) hard_rule(m, k << 9, 24);
+}
+
 static void time_hard_lists(void) {
     static const struct { const char *name; void (*fill)(struct memory); size_t segments; } lists[] = {
         {", /24s spread out", spread_out, 1024},
         {", /24s at random", at_random, 1024},
         {", /24s of many ones", many_ones, 1024},
         {", /32s of many ones", many_ones_long, 1024},
-        {", /32s of more ones, 32,768 segments", more_ones, 32768}};
+        {", /32s of more ones, 32,768 segments", more_ones, 32768},
+        {", /32s in pairs, 32,768 segments", pairs, 32768},
+        {", /16s with a /32 in each, 32,768 segments", covered_pairs, 32768},
+        {", every second /16, a /32 in each other, 32,768 segments", half_covered, 32768},
+        {", a /17 to a /32 in one another, 32,768 segments", chains, 32768},
+        {", every second block", every_second, 1024}};
     heading("The default route over lists made to be hard for withdraw.", "rules");
     for (size_t k = 0; k < sizeof lists / sizeof *lists; k++) {
         struct memory m = lend(lists[k].segments);

@@ -21,7 +21,7 @@ use Rattle.cells.proofs.Lending.{LentToRead, lentToRead?}
 use Rattle.lookup.proofs.Reading.{goes-on}
 use Rattle.lookup.proofs.Answers.{decides, told-verdict, no-pointer}
 use Rattle.bulk.specs.All.{Outcome, answerOf, allOf}
-use Rattle.bulk.specs.inner.Passes.{blockFrom, placeOf, saidOrPointer, judged, settled, placedAll, fetchedAll, judgedAll, settledAll}
+use Rattle.bulk.specs.inner.Passes.{blockFrom, placeOf, saidOrPointer, byFirst, byLong, placedAll, fetchedAll, byFirstAll, byLongAll}
 use Rattle.bulk.proofs.Inside.{block-from, inside?}
 
 -- ---- what was tested
@@ -33,43 +33,43 @@ not-lent first long t n l = n (cond-on _ _ (lentToRead? first long t) l ∙ cond
 
 module _ (first long : List ℕ) (t : Prefix) (addresses answers : List ℕ) where
   -- what a call asks
-  abbrev pub Asked : Type 0
-  Asked = LentToRead (length first) (length long) t × (length addresses ≡ length answers)
+  abbrev pub MayAnswer : Type 0
+  MayAnswer = LentToRead (length first) (length long) t × (length addresses ≡ length answers)
 
-  pub asked? : Decides Asked (lentToRead (length first) (length long) t && eqb (length addresses) (length answers))
-  asked? = and? (lentToRead? (length first) (length long) t) (eqb? (length addresses) (length answers))
+  pub mayAnswer? : Decides MayAnswer (lentToRead (length first) (length long) t && eqb (length addresses) (length answers))
+  mayAnswer? = and? (lentToRead? (length first) (length long) t) (eqb? (length addresses) (length answers))
 
-  pub refuses : (Asked → ⊥) → record { code = 1; answers = answers } ≡ allOf first long t addresses answers
+  pub refuses : (MayAnswer → ⊥) → record { code = 1; answers = answers } ≡ allOf first long t addresses answers
   unfolding allOf
-  refuses n = sym (cond-off _ _ asked? n)
+  refuses n = sym (cond-off _ _ mayAnswer? n)
 
-  pub answered : Asked → {r : List ℕ} → r ≡ map (answerOf first long t) addresses → record { code = 0; answers = r } ≡ allOf first long t addresses answers
+  pub answered : MayAnswer → {r : List ℕ} → r ≡ map (answerOf first long t) addresses → record { code = 0; answers = r } ≡ allOf first long t addresses answers
   unfolding allOf
-  answered h e = ap (λ (x : List ℕ). record { code = 0; answers = x }) e ∙ sym (cond-on _ _ asked? h)
+  answered h e = ap (λ (x : List ℕ). record { code = 0; answers = x }) e ∙ sym (cond-on _ _ mayAnswer? h)
 
   -- and back, by the number that a call answers
   pub has-answered : {o : Outcome} → o ≡ allOf first long t addresses answers → o .code ≡ 0
-      → Asked × (o .answers ≡ map (answerOf first long t) addresses)
+      → MayAnswer × (o .answers ≡ map (answerOf first long t) addresses)
   unfolding allOf
   has-answered e z =
-      by-test asked? (λ h. (h, ap (λ (y : Outcome). y .answers) (e ∙ cond-on _ _ asked? h)))
-      (λ n. absurd (omega (arith, ap (λ (y : Outcome). y .code) (e ∙ cond-off _ _ asked? n))))
+      by-test mayAnswer? (λ h. (h, ap (λ (y : Outcome). y .answers) (e ∙ cond-on _ _ mayAnswer? h)))
+      (λ n. absurd (omega (arith, ap (λ (y : Outcome). y .code) (e ∙ cond-off _ _ mayAnswer? n))))
 
-  pub has-refused : {o : Outcome} → o ≡ allOf first long t addresses answers → (o .code ≡ 0 → ⊥) → (Asked → ⊥) × (o .answers ≡ answers)
+  pub has-refused : {o : Outcome} → o ≡ allOf first long t addresses answers → (o .code ≡ 0 → ⊥) → (MayAnswer → ⊥) × (o .answers ≡ answers)
   unfolding allOf
   has-refused e m =
-      by-test asked? (λ h. absurd (m (ap (λ (y : Outcome). y .code) (e ∙ cond-on _ _ asked? h))))
-      (λ n. (n, ap (λ (y : Outcome). y .answers) (e ∙ cond-off _ _ asked? n)))
+      by-test mayAnswer? (λ h. absurd (m (ap (λ (y : Outcome). y .code) (e ∙ cond-on _ _ mayAnswer? h))))
+      (λ n. (n, ap (λ (y : Outcome). y .answers) (e ∙ cond-off _ _ mayAnswer? n)))
 
 -- ---- one address: what the passes make of it
 
--- a first cell judged and settled
-settles : (long : List ℕ) (a cell : ℕ) → settled long a (saidOrPointer cell) ≡ packed (saysOf long (a % blockSize) cell)
-unfolding settled saidOrPointer
-settles long a cell =
+-- a first cell, by itself and then by the long table
+by-both : (long : List ℕ) (a cell : ℕ) → byLong long a (saidOrPointer cell) ≡ packed (saysOf long (a % blockSize) cell)
+unfolding byLong saidOrPointer
+by-both long a cell =
     by-test (leb? pointerBit cell)
-    (λ p. ap (settled long a) (cond-on _ _ (leb? pointerBit cell) p) ∙ cond-on _ _ (leb? pointerBit cell) p)
-    (λ n. ap (settled long a) (cond-off _ _ (leb? pointerBit cell) n)
+    (λ p. ap (byLong long a) (cond-on _ _ (leb? pointerBit cell) p) ∙ cond-on _ _ (leb? pointerBit cell) p)
+    (λ n. ap (byLong long a) (cond-off _ _ (leb? pointerBit cell) n)
     ∙ cond-off _ _ (leb? pointerBit (packed (verdictOf width cell))) (no-pointer (told-verdict width cell))
     ∙ sym (ap packed (decides long (a % blockSize) cell n)))
 
@@ -77,16 +77,16 @@ module _ (first long : List ℕ) (t : Prefix) (a : ℕ) (l : LentToRead (length 
   in? : Decides (Contains t a) (ltb (blockFrom (t .address) a) (length first))
   in? = inside? (l .territory) fits small (length first) (l .a-cell-a-block)
 
-  passes-answer : settled long a (judged (t .address) (length first) a (getD first (placeOf (t .address) (length first) a) 0)) ≡ answerOf first long t a
-  unfolding lookUp judged placeOf settled
+  passes-answer : byLong long a (byFirst (t .address) (length first) a (getD first (placeOf (t .address) (length first) a) 0)) ≡ answerOf first long t a
+  unfolding lookUp byFirst placeOf byLong
   passes-answer =
       by-test (contains? t a)
       (λ c. let cell : ℕ = getD first (blockOf t a) 0 in
-      ap (λ (k : ℕ). settled long a (judged (t .address) (length first) a (getD first k 0))) (cond-on _ _ in? c ∙ block-from (l .territory) fits small c)
-      ∙ ap (settled long a) (cond-on _ _ in? c)
-      ∙ settles long a cell
+      ap (λ (k : ℕ). byLong long a (byFirst (t .address) (length first) a (getD first k 0))) (cond-on _ _ in? c ∙ block-from (l .territory) fits small c)
+      ∙ ap (byLong long a) (cond-on _ _ in? c)
+      ∙ by-both long a cell
       ∙ ap packed (goes-on refused (length first) (length long) t a (saysOf long (a % blockSize) cell) (record { lent = l; inside = c })))
-      (λ n. ap (settled long a) (cond-off _ _ in? n)
+      (λ n. ap (byLong long a) (cond-off _ _ in? n)
       ∙ sym (ap packed (cond-on _ _ (lentToRead? (length first) (length long) t) l ∙ cond-off _ _ (contains? t a) n)))
 
 -- ---- all addresses
@@ -108,7 +108,7 @@ module _ (first long : List ℕ) (t : Prefix) (addresses answers : List ℕ) (l 
   -- the four passes, each on what the last one left
   pub passes-all : t .address < 2 ^ 32 → ((i : ℕ) → i < length addresses → getD addresses i 0 < 2 ^ 32) → length addresses ≡ length answers → {v w x y : List ℕ}
       → v ≡ placedAll (t .address) (length first) addresses answers → w ≡ fetchedAll first v
-      → x ≡ judgedAll (t .address) (length first) addresses w → y ≡ settledAll long addresses x
+      → x ≡ byFirstAll (t .address) (length first) addresses w → y ≡ byLongAll long addresses x
       → y ≡ map (answerOf first long t) addresses
   passes-all fits small n {v} {w} {x} {y} p q r s =
       pass-then _ _ answers x y (pass-then _ _ answers w x (pass-then _ _ answers v w p q) r) s

@@ -4,7 +4,7 @@ ghost use mathlib.Core.Path.{_≡_};
 ghost use Prim.Native.Nat.{ℕ, _<_};
 ghost use lib.ListN.{length, getD};
 ghost use Rattle.bulk.specs.All.{allOf};
-ghost use Rattle.bulk.specs.inner.Passes.{blockFrom, placeOf, saidOrPointer, judged, settled, placedAll, fetchedAll, judgedAll, settledAll};
+ghost use Rattle.bulk.specs.inner.Passes.{blockFrom, placeOf, saidOrPointer, byFirst, byLong, placedAll, fetchedAll, byFirstAll, byLongAll};
 use cells::cell::Cell;
 use lookup::look::Answer;
 use lookup::look::says;
@@ -38,8 +38,8 @@ fn said_or_pointer(cell: u32) -> u32
 }
 
 // That in the territory, and refusal 3 outside it.
-fn judge(base: u32, blocks: u32, address: u32, cell: u32) -> u32
-    ensures { λ r. ⌜ r ≡ judged base blocks address cell ⌝ }
+fn by_first(base: u32, blocks: u32, address: u32, cell: u32) -> u32
+    ensures { λ r. ⌜ r ≡ byFirst base blocks address cell ⌝ }
 {
     let number = said_or_pointer(cell);
     if block(base, address) < blocks {
@@ -50,8 +50,8 @@ fn judge(base: u32, blocks: u32, address: u32, cell: u32) -> u32
 }
 
 // What a pointer says for an address. The numbers of answers are no pointers, and stay.
-fn settle(long: &[u32], address: u32, word: u32) -> u32
-    ensures { λ r. ⌜ r ≡ settled (now (long .entry)) address word ⌝ }
+fn by_long(long: &[u32], address: u32, word: u32) -> u32
+    ensures { λ r. ⌜ r ≡ byLong (now (long .entry)) address word ⌝ }
 {
     if !Cell::is_pointer(word) {
         return word;
@@ -85,28 +85,28 @@ fn fetch(first: &[u32], answers: &mut [u32])
     }
 }
 
-// The third pass: what it says. It has no jump, so that a machine can judge several cells at once.
-fn judge_all(base: u32, blocks: u32, addresses: &[u32], answers: &mut [u32])
+// The third pass: what it says. It has no jump, so that a machine can do several cells at once.
+fn by_first_all(base: u32, blocks: u32, addresses: &[u32], answers: &mut [u32])
     requires { ⌜ length (now answers) ≡ length (now addresses) ⌝ }
-    ensures { λ _. ⌜ now (answers .exit) ≡ judgedAll base blocks (now (addresses .entry)) (now (answers .entry)) ⌝ }
+    ensures { λ _. ⌜ now (answers .exit) ≡ byFirstAll base blocks (now (addresses .entry)) (now (answers .entry)) ⌝ }
 {
     let count = answers.len();
     let mut i = 0;
     while i < count {
-        answers[i] = judge(base, blocks, addresses[i], answers[i]);
+        answers[i] = by_first(base, blocks, addresses[i], answers[i]);
         i += 1;
     }
 }
 
 // The fourth pass: what each pointer says.
-fn settle_all(long: &[u32], addresses: &[u32], answers: &mut [u32])
+fn by_long_all(long: &[u32], addresses: &[u32], answers: &mut [u32])
     requires { ⌜ length (now answers) ≡ length (now addresses) ⌝ }
-    ensures { λ _. ⌜ now (answers .exit) ≡ settledAll (now (long .entry)) (now (addresses .entry)) (now (answers .entry)) ⌝ }
+    ensures { λ _. ⌜ now (answers .exit) ≡ byLongAll (now (long .entry)) (now (addresses .entry)) (now (answers .entry)) ⌝ }
 {
     let count = answers.len();
     let mut done = 0;
     while done < count {
-        answers[done] = settle(long, addresses[done], answers[done]);
+        answers[done] = by_long(long, addresses[done], answers[done]);
         done += 1;
     }
 }
@@ -134,7 +134,7 @@ pub fn look_up_all(
     let blocks = first.len() as u32;
     places(base, blocks, addresses, answers);
     fetch(first, answers);
-    judge_all(base, blocks, addresses, answers);
-    settle_all(long, addresses, answers);
+    by_first_all(base, blocks, addresses, answers);
+    by_long_all(long, addresses, answers);
     0
 }

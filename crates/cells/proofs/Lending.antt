@@ -49,8 +49,8 @@ lentToUpdate? first long owners rules t =
     })
     (λ l. ((((l .territory, l .a-cell-a-block), l .whole-segments), l .few-segments), l .few-rules))
 
-pub isLent? : (m : Lent) (t : Prefix) → Decides (IsLent m t) (isLent m t)
-isLent? m t =
+pub isLent? : (t : Prefix) (m : Lent) → Decides (IsLent t m) (isLent t m)
+isLent? t m =
     let tables = m .tables in
     iff? (lentToUpdate? (length (tables .first)) (length (tables .long)) (length (tables .owners)) (length (m .rules)) t)
     (λ l. record {

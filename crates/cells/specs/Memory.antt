@@ -48,8 +48,8 @@ lentToUpdate first long owners rules t =
     isTerritory t && eqb first (blocks t) && eqb long (blockSize * owners) && leb owners mostSegments && leb rules mostRules
 
 -- of a memory
-abbrev pub isLent : Lent → Prefix → Bool
-isLent m t =
+abbrev pub isLent : Prefix → Lent → Bool
+isLent t m =
     let tables = m .tables in
     lentToUpdate (length (tables .first)) (length (tables .long)) (length (tables .owners)) (length (m .rules)) t
 
@@ -61,7 +61,7 @@ pub record Sized (t : Prefix) (tables : Tables) : Type 0 where
   pub few : length (tables .owners) ≤ mostSegments
 
 -- the statement that `isLent` decides: all lent memory has its sizes
-pub record IsLent (m : Lent) (t : Prefix) : Type 0 where
+pub record IsLent (t : Prefix) (m : Lent) : Type 0 where
   pub sized : Sized t (m .tables)
   pub few-rules : length (m .rules) ≤ mostRules
 

@@ -49,8 +49,8 @@ only-none T (no-route n e) z = n
 -- an address is charged to one word
 pub one-charge : {rs : List Route} {a h k : ℕ} → AllRoutes rs → Ascending rs → IsCharged rs a h → IsCharged rs a k → h ≡ k
 one-charge {rs} all o (to-hop r l e) (to-hop s m f) = e ∙ ap (λ (x : Route). x .hop) (longest-unique rs all o l m) ∙ sym f
-one-charge all o (to-hop r l e) (to-none n f) = absurd (n r (l .live) (l .contains))
-one-charge all o (to-none n e) (to-hop s m f) = absurd (n s (m .live) (m .contains))
+one-charge all o (to-hop r l e) (to-none n f) = absurd (n r (l .member) (l .contains))
+one-charge all o (to-none n e) (to-hop s m f) = absurd (n s (m .member) (m .contains))
 one-charge all o (to-none n e) (to-none m f) = e ∙ sym f
 
 -- the function tells that word
@@ -74,7 +74,7 @@ inside first long t a = go (saysOf long (a % blockSize) (getD first (blockOf t a
     go x true (fails n) e = absurd (omega arith)
     go x false (fails n) e = absurd (omega arith)
 
-module _ (t : Prefix) (m : Lent) (lent : IsLent m t) (h : History) (a : ℕ) where
+module _ (t : Prefix) (m : Lent) (lent : IsLent t m) (h : History) (a : ℕ) where
   abbrev answer : Answer
   answer = lookUp (memory t m h .tables .first) (memory t m h .tables .long) t a
 
@@ -106,7 +106,7 @@ module _ (t : Prefix) (m : Lent) (lent : IsLent m t) (h : History) (a : ℕ) whe
 
 -- ---- every account
 
-module _ (t : Prefix) (m : Lent) (lent : IsLent m t) (w : List ℕ) (long : length w ≡ wordCount) where
+module _ (t : Prefix) (m : Lent) (lent : IsLent t m) (w : List ℕ) (long : length w ≡ wordCount) where
   -- what an accepted flow adds to word k, by look up's answer and by what was live
   adds : (s : Account) (a amount k : ℕ)
       → let f = flowOf t m s a amount in

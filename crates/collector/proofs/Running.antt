@@ -135,40 +135,40 @@ pub cleared-by : (t : Prefix) (m : Lent) {n k : Lent} {o : Report} {next : Next}
 cleared-by t m {n} {next = next} here e =
     subst (λ (x : Lent). Handed 0 x next n) (ap (λ (x : Outcome). x .lent) e ∙ ap (λ (p : Prefix). clear p m .lent) here)
 
-module _ (m : Lent) {n : Lent} {next : Next} (lent : IsLent m site) (H : Handed 0 (clear site m .lent) next n) where
+module _ (m : Lent) {n : Lent} {next : Next} (lent : IsLent site m) (H : Handed 0 (clear site m .lent) next n) where
   memory-is : n ≡ memory site m (historyOf (H .bytes))
   unfolding memory
   memory-is = H .lent ∙ sym (memory-goes-on site m start (streamOf (H .bytes) 0 .updates))
 
-  pub last-is : {lives opens : ℕ} {r : Last} → r ≡ lastOf next lives opens → lives ≡ used (n .rules) → opens ≡ used (n .tables .owners) → LastIs m r n
-  last-is {lives} {opens} {r} g e f = record {
+  pub last-is : {prefixes segments : ℕ} {r : Last} → r ≡ lastOf next prefixes segments → prefixes ≡ used (n .rules) → segments ≡ used (n .tables .owners) → LastIs m r n
+  last-is {prefixes} {segments} {r} g e f = record {
     bytes = H .bytes;
     lent = memory-is;
     number = λ z. ap (λ (x : Last). x .code) g ∙ numbered next (H .says) (sym (ap (λ (x : Last). x .failed) g) ∙ z);
-    lives =
-        ap (λ (x : Last). x .live) g ∙ counts next ∙ e ∙ ap (λ (x : Lent). used (x .rules)) memory-is
+    prefixes =
+        ap (λ (x : Last). x .prefixes) g ∙ counts next ∙ e ∙ ap (λ (x : Lent). used (x .rules)) memory-is
         ∙ live-counted site m lent (historyOf (H .bytes));
-    opens = ap (λ (x : Last). x .opened) g ∙ opened next ∙ f ∙ ap (λ (x : Lent). used (x .tables .owners)) memory-is;
+    segments = ap (λ (x : Last). x .segments) g ∙ opened next ∙ f ∙ ap (λ (x : Lent). used (x .tables .owners)) memory-is;
   }
     where
-      numbered : (x : Next) → Agrees x (streamOf (H .bytes) 0 .step) (H .bytes) → lastOf x lives opens .failed ≡ false
-          → lastOf x lives opens .code ≡ numberOf (streamOf (H .bytes) 0 .step)
+      numbered : (x : Next) → Agrees x (streamOf (H .bytes) 0 .step) (H .bytes) → lastOf x prefixes segments .failed ≡ false
+          → lastOf x prefixes segments .code ≡ numberOf (streamOf (H .bytes) 0 .step)
       numbered (Ends number) a z = a
       numbered (Goes serial) a z = absurd (true≢false z)
       numbered Fails a z = absurd (true≢false z)
 
-      counts : (x : Next) → lastOf x lives opens .live ≡ lives
+      counts : (x : Next) → lastOf x prefixes segments .prefixes ≡ prefixes
       counts (Ends number) = refl
       counts (Goes serial) = refl
       counts Fails = refl
 
-      opened : (x : Next) → lastOf x lives opens .opened ≡ opens
+      opened : (x : Next) → lastOf x prefixes segments .segments ≡ segments
       opened (Ends number) = refl
       opened (Goes serial) = refl
       opened Fails = refl
 
 -- Demand 2 of the program's tables: whatever was handed over, look up answers every address of the territory by the longest match.
-pub tables-answer : (m : Lent) {n : Lent} {r : Last} → IsLent m site → (R : LastIs m r n) → (a : ℕ) → Contains site a
+pub tables-answer : (m : Lent) {n : Lent} {r : Last} → IsLent site m → (R : LastIs m r n) → (a : ℕ) → Contains site a
     → IsAnswer (live site m (historyOf (R .bytes))) a (lookUp (n .tables .first) (n .tables .long) site a)
 tables-answer m lent R a c =
     subst (λ (x : Lent). IsAnswer (live site m (historyOf (R .bytes))) a (lookUp (x .tables .first) (x .tables .long) site a)) (sym (R .lent))

@@ -56,9 +56,9 @@ nextOf (Expects serial) Rest = Fails
 nextOf (Expects serial) Failure = Fails
 
 abbrev pub lastOf : Next → ℕ → ℕ → Last
-lastOf (Ends number) live opened = record { failed = false; code = number; live = live; opened = opened }
-lastOf (Goes serial) live opened = record { failed = true; code = 0; live = live; opened = opened }
-lastOf Fails live opened = record { failed = true; code = 0; live = live; opened = opened }
+lastOf (Ends number) prefixes segments = record { failed = false; code = number; prefixes = prefixes; segments = segments }
+lastOf (Goes serial) prefixes segments = record { failed = true; code = 0; prefixes = prefixes; segments = segments }
+lastOf Fails prefixes segments = record { failed = true; code = 0; prefixes = prefixes; segments = segments }
 
 -- ---- the loop
 
@@ -86,5 +86,5 @@ pub record LastIs (m : Lent) (r : Last) (n : Lent) : Type 0 where
   pub bytes : List ℕ
   pub lent : n ≡ memory site m (historyOf bytes)
   pub number : r .failed ≡ false → r .code ≡ numberOf (streamOf bytes 0 .step)
-  pub lives : r .live ≡ length (live site m (historyOf bytes))
-  pub opens : r .opened ≡ used (memory site m (historyOf bytes) .tables .owners)
+  pub prefixes : r .prefixes ≡ length (live site m (historyOf bytes))
+  pub segments : r .segments ≡ used (memory site m (historyOf bytes) .tables .owners)

@@ -11,8 +11,8 @@ use libc::STDOUT_FILENO;
 pub struct Last {
     pub failed: bool,
     pub code: u32,
-    pub live: u64,
-    pub opened: u64,
+    pub prefixes: u64,
+    pub segments: u64,
 }
 
 // How much of a text is written, and whether a write failed.
@@ -117,9 +117,9 @@ pub fn print_last(last: Last) -> bool {
     let a = put_text(&mut line, 0, b"end ");
     let b = put_number(&mut line, a, last.code as u64);
     let c = put_text(&mut line, b, b" live ");
-    let d = put_number(&mut line, c, last.live);
+    let d = put_number(&mut line, c, last.prefixes);
     let e = put_text(&mut line, d, b" open ");
-    let f = put_number(&mut line, e, last.opened);
+    let f = put_number(&mut line, e, last.segments);
     let end = put_text(&mut line, f, b"\n");
     write_all(&line[..end])
 }

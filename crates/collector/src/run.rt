@@ -109,39 +109,39 @@ fn take_stream(first: &mut [u32], long: &mut [u32], owners: &mut [u32], rules: &
 }
 
 // The numbers of the last line; where something failed there is no such line.
-fn last_of(next: Next, live: u64, opened: u64) -> Last
-    ensures { λ r. ⌜ r ≡ lastOf next live opened ⌝ }
+fn last_of(next: Next, prefixes: u64, segments: u64) -> Last
+    ensures { λ r. ⌜ r ≡ lastOf next prefixes segments ⌝ }
 {
     match next {
         Next::Ends(code) => Last {
             failed: false,
             code,
-            live,
-            opened,
+            prefixes,
+            segments,
         },
         Next::Expects(_) => Last {
             failed: true,
             code: 0,
-            live,
-            opened,
+            prefixes,
+            segments,
         },
         Next::Fails => Last {
             failed: true,
             code: 0,
-            live,
-            opened,
+            prefixes,
+            segments,
         },
     }
 }
 
 // From cleared memory, the whole stream, and the numbers of the last line.
 pub fn run(first: &mut [u32], long: &mut [u32], owners: &mut [u32], rules: &mut [u64]) -> Last
-    requires { ⌜ IsLent (lent first long owners rules) site ⌝ }
+    requires { ⌜ IsLent site (lent first long owners rules) ⌝ }
     ensures { λ r. ⌜ LastIs (lentIn first long owners rules) r (lentOut first long owners rules) ⌝ }
 {
     updates::clear(first, long, owners, rules, territory());
     let next = take_stream(first, long, owners, rules);
-    let live = counts::live_prefixes(rules);
-    let opened = counts::open_segments(owners);
-    last_of(next, live, opened)
+    let prefixes = counts::live_prefixes(rules);
+    let segments = counts::open_segments(owners);
+    last_of(next, prefixes, segments)
 }

@@ -12,7 +12,7 @@ use lib.Ieee.{Float, lt}
 use lib.Ieee.Positive.{num, den, den-pos, through}
 use borrow.Author.Tests.{lt-ltb, le-ltb, ltb-true, ltb-false, eq-eqb, ne-eqb}
 use Rattle.costs.specs.Lines.{rateOf}
-use Rattle.costs.specs.Ranks.{Sound, classOf, dearer, ahead, tieBroken, wordOf, before}
+use Rattle.costs.specs.Ranks.{Sound, classOf, dearer, ahead, tieBroken, hopWord, before}
 use Rattle.costs.specs.Order.{Order}
 use Rattle.ground.proofs.Cases.{by-lt, by-eq, by-cmp}
 use Rattle.ground.proofs.Tests.{Decides, holds, fails, ltb?, says, passes, stops, iff?}
@@ -219,29 +219,29 @@ module _ (f : ℕ → ℕ → Bool) (once-only : (a b : ℕ) → f a b ≡ true 
 
 -- ---- the hops by cost
 
-word-small : (ws : List ℕ) → ((h : ℕ) → 0 < h → getD ws h 0 ≤ 2 ^ 53) → (h : ℕ) → wordOf ws h ≤ 2 ^ 53
-unfolding wordOf
+word-small : (ws : List ℕ) → ((h : ℕ) → 0 < h → getD ws h 0 ≤ 2 ^ 53) → (h : ℕ) → hopWord ws h ≤ 2 ^ 53
+unfolding hopWord
 word-small ws s zero = zero-le
 word-small ws s (suc h) = s (suc h) (suc-le-suc zero-le)
 
-pub word-is : (ws : List ℕ) (h : ℕ) → 0 < h → wordOf ws h ≡ getD ws h 0
-unfolding wordOf
-word-is ws zero p = absurd (not-suc-le-zero p)
-word-is ws (suc h) p = refl
+pub hop-word-is : (ws : List ℕ) (h : ℕ) → 0 < h → hopWord ws h ≡ getD ws h 0
+unfolding hopWord
+hop-word-is ws zero p = absurd (not-suc-le-zero p)
+hop-word-is ws (suc h) p = refl
 
 module _ (os cs : List ℕ) (l : Sound os cs) where
   abbrev goes : ℕ → ℕ → Bool
-  goes a b = ahead (wordOf os a) (wordOf cs a) (wordOf os b) (wordOf cs b)
+  goes a b = ahead (hopWord os a) (hopWord cs a) (hopWord os b) (hopWord cs b)
 
-  at? : (a b : ℕ) → Decides (Goes (wordOf os a) (wordOf cs a) (wordOf os b) (wordOf cs b)) (goes a b)
-  at? a b = goes? (wordOf os a) (wordOf cs a) (wordOf os b) (wordOf cs b) (word-small os (l .octets-small) a) (word-small cs (l .cents-small) a) (word-small os (l .octets-small) b) (word-small cs (l .cents-small) b)
+  at? : (a b : ℕ) → Decides (Goes (hopWord os a) (hopWord cs a) (hopWord os b) (hopWord cs b)) (goes a b)
+  at? a b = goes? (hopWord os a) (hopWord cs a) (hopWord os b) (hopWord cs b) (word-small os (l .octets-small) a) (word-small cs (l .cents-small) a) (word-small os (l .octets-small) b) (word-small cs (l .cents-small) b)
 
   goes-once : (a b : ℕ) → goes a b ≡ true → goes b a ≡ true → ⊥
   goes-once a b h k = one-way _ _ _ _ _ _ (says (at? a b) h) (says (at? b a) k)
 
   goes-between : (a b c : ℕ) → goes a b ≡ true → (goes a c ≡ true) ⊎ (goes c b ≡ true)
   goes-between a b c h =
-      elim (goes-third (wordOf os a) (wordOf cs a) (wordOf os b) (wordOf cs b) (wordOf os c) (wordOf cs c) (says (at? a b) h)) [
+      elim (goes-third (hopWord os a) (hopWord cs a) (hopWord os b) (hopWord cs b) (hopWord os c) (hopWord cs c) (says (at? a b) h)) [
         | inl g ↦ inl (passes (at? a c) g)
         | inr g ↦ inr (passes (at? c b) g)
       ]
@@ -265,7 +265,7 @@ pub by-words : {r : Bool} {ob cb : ℕ} (os cs : List ℕ) (a b : ℕ) → 0 < a
     → r ≡ tieBroken (ahead (getD os a 0) (getD cs a 0) ob cb) (ahead ob cb (getD os a 0) (getD cs a 0)) a b
     → r ≡ before os cs a b
 unfolding before
-by-words os cs a b p q e f h = rw (word-is os a p, word-is cs a p, word-is os b q ∙ sym e, word-is cs b q ∙ sym f) h
+by-words os cs a b p q e f h = rw (hop-word-is os a p, hop-word-is cs a p, hop-word-is os b q ∙ sym e, hop-word-is cs b q ∙ sym f) h
 
 -- ---- the answers of `line_before`
 

@@ -9,6 +9,7 @@ use lib.Dec.{leb, eqb}
 use lib.ListN.{length, getD}
 use lib.Ieee.{Float}
 use borrow.Author.Tests.{le-leb, lt-leb, eq-eqb, ne-eqb}
+use Rattle.prefix.specs.Routes.{lastHop}
 use Rattle.octets.specs.Words.{wordCount, most}
 use Rattle.ground.proofs.Cases.{by-eq}
 use Rattle.ground.proofs.Tests.{Decides, leb?, eqb?, and?, cond-on, cond-off, by-test}
@@ -68,8 +69,8 @@ module _ (os cs : List ℕ) (hop : ℕ) where
   sizes? : Decides ((length os ≡ wordCount) × (length cs ≡ wordCount)) (eqb (length os) wordCount && eqb (length cs) wordCount)
   sizes? = and? (eqb? (length os) wordCount) (eqb? (length cs) wordCount)
 
-  hop? : Decides ((1 ≤ hop) × (hop ≤ 32767)) (leb 1 hop && leb hop 32767)
-  hop? = and? (leb? 1 hop) (leb? hop 32767)
+  hop? : Decides ((1 ≤ hop) × (hop ≤ lastHop)) (leb 1 hop && leb hop lastHop)
+  hop? = and? (leb? 1 hop) (leb? hop lastHop)
 
   abbrev words : ℕ
   words = wordsCode (getD os hop 0) (getD cs hop 0)
@@ -81,11 +82,11 @@ module _ (os cs : List ℕ) (hop : ℕ) where
   unfolding lineCode
   code-1 n = cond-off _ _ sizes? n
 
-  code-2 : (length os ≡ wordCount) × (length cs ≡ wordCount) → ((1 ≤ hop) × (hop ≤ 32767) → ⊥) → lineCode os cs hop ≡ 2
+  code-2 : (length os ≡ wordCount) × (length cs ≡ wordCount) → ((1 ≤ hop) × (hop ≤ lastHop) → ⊥) → lineCode os cs hop ≡ 2
   unfolding lineCode
   code-2 l n = cond-on _ _ sizes? l ∙ cond-off _ _ hop? n
 
-  code-words : (length os ≡ wordCount) × (length cs ≡ wordCount) → (1 ≤ hop) × (hop ≤ 32767) → lineCode os cs hop ≡ words
+  code-words : (length os ≡ wordCount) × (length cs ≡ wordCount) → (1 ≤ hop) × (hop ≤ lastHop) → lineCode os cs hop ≡ words
   unfolding lineCode
   code-words l h = cond-on _ _ sizes? l ∙ cond-on _ _ hop? h
 
@@ -93,11 +94,11 @@ module _ (os cs : List ℕ) (hop : ℕ) where
   unfolding lineOf
   line-1 n = sym (ap line (code-1 n))
 
-  pub line-2 : (length os ≡ wordCount) × (length cs ≡ wordCount) → ((1 ≤ hop) × (hop ≤ 32767) → ⊥) → Refused 2 ≡ lineOf os cs hop
+  pub line-2 : (length os ≡ wordCount) × (length cs ≡ wordCount) → ((1 ≤ hop) × (hop ≤ lastHop) → ⊥) → Refused 2 ≡ lineOf os cs hop
   unfolding lineOf
   line-2 l n = sym (ap line (code-2 l n))
 
-  pub line-words : {r : Line} → (length os ≡ wordCount) × (length cs ≡ wordCount) → (1 ≤ hop) × (hop ≤ 32767) → r ≡ wordsLine (getD os hop 0) (getD cs hop 0) → r ≡ lineOf os cs hop
+  pub line-words : {r : Line} → (length os ≡ wordCount) × (length cs ≡ wordCount) → (1 ≤ hop) × (hop ≤ lastHop) → r ≡ wordsLine (getD os hop 0) (getD cs hop 0) → r ≡ lineOf os cs hop
   unfolding lineOf wordsLine
   line-words l h e = e ∙ sym (ap line (code-words l h))
 

@@ -40,16 +40,16 @@ unfoldable pub tieBroken : Bool → Bool → ℕ → ℕ → Bool
 tieBroken there back a b = cond there true (cond back false (ltb a b))
 
 -- the word of a hop; 0 is no hop, and has none
-unfoldable pub wordOf : List ℕ → ℕ → ℕ
-wordOf words zero = 0
-wordOf words (suc h) = getD words (suc h) 0
+unfoldable pub hopWord : List ℕ → ℕ → ℕ
+hopWord words zero = 0
+hopWord words (suc h) = getD words (suc h) 0
 
 -- hop a ranks before hop b
 unfoldable pub before : List ℕ → List ℕ → ℕ → ℕ → Bool
-unfolding ahead tieBroken wordOf
+unfolding ahead tieBroken hopWord
 before octets cents a b =
     tieBroken
-    (ahead (wordOf octets a) (wordOf cents a) (wordOf octets b) (wordOf cents b))
-    (ahead (wordOf octets b) (wordOf cents b) (wordOf octets a) (wordOf cents a))
+    (ahead (hopWord octets a) (hopWord cents a) (hopWord octets b) (hopWord cents b))
+    (ahead (hopWord octets b) (hopWord cents b) (hopWord octets a) (hopWord cents a))
     a
     b

@@ -125,6 +125,6 @@ module _ (t : Prefix) (rs : List Route) (m : Lent) (I : Inv t rs m) (a : ℕ) (c
       go (found r e l) = routed r l (look-up-best ∙ ap answerOf e)
 
 -- Demand 2.
-pub demand-2 : (t : Prefix) (m : Lent) → IsLent m t → (h : History) (a : ℕ) → Contains t a
+pub demand-2 : (t : Prefix) (m : Lent) → IsLent t m → (h : History) (a : ℕ) → Contains t a
     → IsAnswer (live t m h) a (lookUp (memory t m h .tables .first) (memory t m h .tables .long) t a)
 demand-2 t m l h a c = is-answer t (live t m h) (memory t m h) (inv-history t m l h) a c

@@ -7,7 +7,7 @@ use mathlib.Core.List.{List, List·Memᴰ as Mem}
 use Prim.Native.Nat.{ℕ, _≤_}
 use native.Mathlib.Omega.{arith}
 use lib.Dec.{eqb}
-use Rattle.ground.proofs.Tests.{Decides, holds, fails, eqb?, stops}
+use Rattle.ground.proofs.Tests.{eqb?, stops}
 use Rattle.history.proofs.LiveTables.{TablesOf}
 use Rattle.updates.specs.Effects.{retabled, effect}
 use Rattle.ground.proofs.Lists.{differing-refl}
@@ -22,7 +22,8 @@ use Rattle.prefix.proofs.Blocks.{Opens, opens?, opened-with, opened-without-oth
 use Rattle.cells.specs.Memory.{Lent, IsLent}
 use Rattle.refusals.specs.Codes.{Call, announces, change, code}
 use Rattle.tables.specs.Changes.{changed}
-use Rattle.updates.specs.Calls.{accepted, refused, outcome, step}
+use Rattle.updates.specs.Calls.{outcome, step}
+use Rattle.updates.proofs.Outcomes.{by-outcome}
 use Rattle.history.specs.Costs.{shortMost, Costs}
 use Rattle.history.specs.History.{History, _then_, memory, report, isAccepted, live}
 use Rattle.history.proofs.Announcing.{only-opening, announced-keeps}
@@ -35,12 +36,9 @@ use Rattle.history.proofs.Histories.{inv-history, makes}
 -- a refusal answers 0 cells and the memory as it was
 kept : (number : ℕ) (m n : Lent) → eqb (outcome number m n .report .code) 0 ≡ false
     → (outcome number m n .report .cells ≡ 0) × (outcome number m n .lent ≡ m)
-kept number m n = go (eqb number 0)
-  where
-    go : (x : Bool) → eqb (cond x (accepted m n) (refused number m) .report .code) 0 ≡ false
-        → (cond x (accepted m n) (refused number m) .report .cells ≡ 0) × (cond x (accepted m n) (refused number m) .lent ≡ m)
-    go true e = absurd (true≢false e)
-    go false e = (refl, refl)
+kept number m n =
+    by-outcome (λ o. eqb (o .report .code) 0 ≡ false → (o .report .cells ≡ 0) × (o .lent ≡ m)) number m n (λ z e. absurd (true≢false e))
+    (λ f e. (refl, refl))
 
 -- ---- an accepted change
 
@@ -113,7 +111,9 @@ module _ (t : Prefix) (c : Change) (rs : List Route) (m : Lent) (I : Inv t rs m)
 -- a call that is accepted costs what its change costs, and one that is refused costs nothing
 costs-stepped : (t p : Prefix) (rs us : List Route) (m n : Lent) (number : ℕ) → (number ≡ 0 → Costs t p rs us m n (changed (m .tables) (n .tables)))
     → Costs t p rs (cond (eqb (outcome number m n .report .code) 0) us rs) m (outcome number m n .lent) (outcome number m n .report .cells)
-costs-stepped t p rs us m n number costs = go (eqb number 0) (eqb? number 0)
+costs-stepped t p rs us m n number costs =
+    by-outcome (λ o. Costs t p rs (cond (eqb (o .report .code) 0) us rs) m (o .lent) (o .report .cells)) number m n costs
+    (λ f. rw (stops (eqb? number 0) f) nothing)
   where
     nothing : Costs t p rs rs m m 0
     nothing = record {
@@ -123,14 +123,8 @@ costs-stepped t p rs us m n number costs = go (eqb number 0) (eqb? number 0)
       short = λ s. omega arith;
     }
 
-    go : (x : Bool) → Decides (number ≡ 0) x
-        → Costs t p rs (cond (eqb (cond x (accepted m n) (refused number m) .report .code) 0) us rs) m
-        (cond x (accepted m n) (refused number m) .lent) (cond x (accepted m n) (refused number m) .report .cells)
-    go x (holds z) = costs z
-    go x (fails f) = rw (stops (eqb? number 0) f) nothing
-
 -- Demand 3.
-pub demand-3 : (t : Prefix) (m : Lent) → IsLent m t → (h : History) (c : Call)
+pub demand-3 : (t : Prefix) (m : Lent) → IsLent t m → (h : History) (c : Call)
     → Costs t (named (change c)) (live t m h) (live t m (h then c)) (memory t m h) (memory t m (h then c)) (report t m h c .cells)
 unfolding memory live isAccepted report step
 demand-3 t m l h c =
@@ -147,7 +141,7 @@ unfolding memory isAccepted report step
 refused-nothing t m h c e = kept (code t c (memory t m h)) (memory t m h) (effect t (change c) (memory t m h)) e
 
 -- Announcing a live prefix with the same hop costs 0.
-pub same-hop : (t : Prefix) (m : Lent) → IsLent m t → (h : History) (r : Route) → Mem r (live t m h) → report t m h (announces r) .cells ≡ 0
+pub same-hop : (t : Prefix) (m : Lent) → IsLent t m → (h : History) (r : Route) → Mem r (live t m h) → report t m h (announces r) .cells ≡ 0
 unfolding live
 same-hop t m l h r lives =
     let rs = live t m h in

@@ -4,7 +4,7 @@ use mathlib.Core.Bool.{Bool, cond, not, true≢false}
 use mathlib.Core.List.{List, []}
 use Prim.Native.Nat.{ℕ}
 use lib.Dec.{eqb}
-use Rattle.ground.proofs.Tests.{Decides, holds, fails, eqb?, passes, stops, says, cond-on}
+use Rattle.ground.proofs.Tests.{eqb?, passes, stops, says, cond-on}
 use Rattle.prefix.specs.declared.Prefix.{Prefix}
 use Rattle.prefix.specs.Routes.{Route, isChange, applied}
 use Rattle.prefix.proofs.Prefixes.{wellFormed?}
@@ -16,19 +16,16 @@ use Rattle.cells.proofs.Lending.{isLent?}
 use Rattle.refusals.proofs.Refusing.{live-passed, room-passed, admitted, live-needs-none}
 use Rattle.refusals.specs.Codes.{clearCode, announces, withdraws, re-homes, code, Call, change}
 use Rattle.updates.specs.Effects.{cleared, effect}
-use Rattle.updates.specs.Calls.{Outcome, accepted, refused, outcome, clear, step}
+use Rattle.updates.specs.Calls.{Outcome, outcome, clear, step}
+use Rattle.updates.proofs.Outcomes.{by-outcome}
 use Rattle.history.specs.History.{History, start, _then_, memory, report, isAccepted, live}
 use Rattle.history.proofs.Invariant.{Inv, inv-start, live-routes, Makes, keeps}
 
 -- what a step leaves, by whether its number is 0
 stepped : (t : Prefix) (rs us : List Route) (m n : Lent) (number : ℕ) → Inv t rs m → (number ≡ 0 → Inv t us n)
     → Inv t (cond (eqb (outcome number m n .report .code) 0) us rs) (outcome number m n .lent)
-stepped t rs us m n number I keep = go (eqb number 0) (eqb? number 0)
-  where
-    go : (x : Bool) → Decides (number ≡ 0) x
-        → Inv t (cond (eqb (cond x (accepted m n) (refused number m) .report .code) 0) us rs) (cond x (accepted m n) (refused number m) .lent)
-    go x (holds z) = keep z
-    go x (fails f) = rw (stops (eqb? number 0) f) I
+stepped t rs us m n number I keep =
+    by-outcome (λ o. Inv t (cond (eqb (o .report .code) 0) us rs) (o .lent)) number m n keep (λ f. rw (stops (eqb? number 0) f) I)
 
 -- ---- each call: what its acceptance says, where the invariant holds
 
@@ -66,13 +63,13 @@ module _ (t : Prefix) (rs : List Route) (m : Lent) (I : Inv t rs m) where
       }
 
 -- clear, where what is lent has the right sizes
-clear-lent : (t : Prefix) (m : Lent) → IsLent m t → clear t m .lent ≡ cleared m
+clear-lent : (t : Prefix) (m : Lent) → IsLent t m → clear t m .lent ≡ cleared m
 unfolding clear clearCode
 clear-lent t m l =
-    let zero : clearCode t m ≡ 0 = ap (λ (x : Bool). cond (not x) 1 0) (passes (isLent? m t) l) in
+    let zero : clearCode t m ≡ 0 = ap (λ (x : Bool). cond (not x) 1 0) (passes (isLent? t m) l) in
     ap (λ (o : Outcome). o .lent) (cond-on _ _ (eqb? (clearCode t m) 0) zero)
 
-pub inv-history : (t : Prefix) (m : Lent) → IsLent m t → (h : History) → Inv t (live t m h) (memory t m h)
+pub inv-history : (t : Prefix) (m : Lent) → IsLent t m → (h : History) → Inv t (live t m h) (memory t m h)
 unfolding memory live isAccepted report step
 inv-history t m l start = subst (Inv t []) (sym (clear-lent t m l)) (inv-start t m l)
 inv-history t m l (h then c) =

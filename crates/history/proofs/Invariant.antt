@@ -58,7 +58,7 @@ length-zeros n = length-replicate n 0
 zero-at : (n i : ℕ) → getD (zeros n) i 0 ≡ 0
 zero-at n i = by-lt i n (λ h. getD-replicate n i 0 0 h) (λ h. List·getD-eq-default (zeros n) 0 (omega (arith, length-zeros n)))
 
-pub inv-start : (t : Prefix) (m : Lent) → IsLent m t → Inv t [] (cleared m)
+pub inv-start : (t : Prefix) (m : Lent) → IsLent t m → Inv t [] (cleared m)
 unfolding cleared wordsOf opened-run best
 inv-start t m l =
     let T = m .tables in

@@ -12,7 +12,7 @@ use Rattle.ground.proofs.Lists.{differs-same, differs-other}
 use Rattle.prefix.specs.declared.Prefix.{Prefix}
 use Rattle.prefix.specs.Prefixes.{contains, WellFormed, Contains}
 use Rattle.prefix.specs.Price.{differ}
-use Rattle.prefix.specs.Routes.{Route, Match, no-route, via, better, best, without, noLonger, AllRoutes, Ascending}
+use Rattle.prefix.specs.Routes.{Route, Match, no-route, via, better, best, without, noLonger, lastHop, AllRoutes, Ascending}
 use Rattle.prefix.proofs.Prefixes.{contains?}
 use Rattle.prefix.proofs.Changes.{best-length, hasLength, without-other}
 use Rattle.prefix.proofs.Blocks.{differ-same, differ-other}
@@ -22,7 +22,7 @@ use Rattle.tables.specs.Cellwise.{paintCell, unpaintCell}
 -- a match that a list of routes can give: a hop from 1 to 32,767 and a length of at most 32
 abbrev pub Good : Match → Type 0
 Good no-route = Unit {0}
-Good (via h l) = (1 ≤ h) × (h ≤ 32767) × (l ≤ 32)
+Good (via h l) = (1 ≤ h) × (h ≤ lastHop) × (l ≤ 32)
 
 pub best-good : (rs : List Route) (a : ℕ) → AllRoutes rs → Good (best rs a)
 best-good rs a all = go (best rs a) refl

@@ -5,7 +5,6 @@ use mathlib.Core.Bool.{Bool, true, false, cond, not, _&&_}
 use mathlib.Core.List.{List}
 use Prim.Native.Nat.{ℕ, _+_, _≤_, _<_}
 use native.Mathlib.Omega.{arith}
-use lib.Dec.{eqb}
 use lib.ListN.{length, getD}
 use Rattle.ground.proofs.Tests.{passes, says}
 use Rattle.refusals.proofs.Refusing.{named-formed}
@@ -24,7 +23,8 @@ use Rattle.refusals.specs.Damage.{undamaged}
 use Rattle.refusals.specs.Codes.{tested, Call, announces, withdraws, re-homes, unlessLive, unlessRoom, code, change, own}
 use Rattle.prefix.proofs.Spans.{blocks-inside}
 use Rattle.refusals.proofs.Soundness.{Clean, SegmentSound, BlockSound, undamaged?}
-use Rattle.updates.specs.Calls.{accepted, refused, outcome, step}
+use Rattle.updates.specs.Calls.{outcome, step}
+use Rattle.updates.proofs.Outcomes.{by-outcome}
 use Rattle.history.specs.History.{History, memory, report, live}
 use Rattle.history.proofs.Holding.{closed-cell, open-pointer}
 use Rattle.history.proofs.Matches.{Good, best-good}
@@ -82,7 +82,7 @@ module _ (t : Prefix) (rs : List Route) (m : Lent) (I : Inv t rs m) where
 tested-not-4 : (t : Prefix) (c : Change) (m : Lent) (next : ℕ) → (isChange c ≡ true → encloses t (named c) ≡ true → undamaged t (named c) m ≡ true)
     → ¬ (next ≡ 4) → ¬ (tested t c m next ≡ 4)
 unfolding tested
-tested-not-4 t c m next sound n = go (isLent m t) (isChange c) (encloses t (named c)) (undamaged t (named c) m) refl refl refl
+tested-not-4 t c m next sound n = go (isLent t m) (isChange c) (encloses t (named c)) (undamaged t (named c) m) refl refl refl
   where
     go : (x y z w : Bool) → isChange c ≡ y → encloses t (named c) ≡ z → undamaged t (named c) m ≡ w
         → ¬ (cond (not x) 1 (cond (not y) 2 (cond (not z) 3 (cond (not w) 4 next))) ≡ 4)
@@ -113,13 +113,9 @@ own-not-4 t (withdraws p) m = live-not-4 p m
 own-not-4 t (re-homes r) m = live-not-4 (r .prefix) m
 
 answers-no-4 : (number : ℕ) (m n : Lent) → ¬ (number ≡ 4) → ¬ (outcome number m n .report .code ≡ 4)
-answers-no-4 number m n f = go (eqb number 0)
-  where
-    go : (x : Bool) → ¬ (cond x (accepted m n) (refused number m) .report .code ≡ 4)
-    go true e = omega arith
-    go false e = f e
+answers-no-4 number m n f = by-outcome (λ o. ¬ (o .report .code ≡ 4)) number m n (λ z e. omega arith) (λ z. f)
 
-pub no-damage : (t : Prefix) (m : Lent) → IsLent m t → (h : History) (c : Call) → ¬ (report t m h c .code ≡ 4)
+pub no-damage : (t : Prefix) (m : Lent) → IsLent t m → (h : History) (c : Call) → ¬ (report t m h c .code ≡ 4)
 unfolding report step code
 no-damage t m l h c =
     let n = memory t m h in

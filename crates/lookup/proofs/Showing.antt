@@ -13,7 +13,7 @@ use Rattle.prefix.specs.declared.Prefix.{Prefix}
 use Rattle.cells.specs.Cells.{pointerBit, isPointer, segmentOf}
 use Rattle.prefix.specs.Geometry.{blockSize, blockOf}
 use Rattle.lookup.specs.inner.Standing.{standingOf}
-use Rattle.lookup.specs.Show.{Run, part, firstCell, showCode, shown}
+use Rattle.lookup.specs.Show.{Seen, part, firstCell, showCode, shown}
 use Rattle.lookup.proofs.Reading.{Stands, stands, goes-on, stops-at}
 
 -- the first cell is a pointer to a segment that is not lent
@@ -56,7 +56,7 @@ pub segment-lent : {first long : List ℕ} {t : Prefix} {a : ℕ} → Shows firs
 segment-lent {first} {long} {t} {a} s p =
     by-lt (segmentOf (firstCell first t a)) (length long / blockSize) (λ l. l) (λ h. absurd (s .lent (record { pointer = p; not-lent = h })))
 
-module _ (first long : Run) (t : Prefix) (a : ℕ) where
+module _ (first long : Seen) (t : Prefix) (a : ℕ) where
   -- the empty part at the first table's start
   pub shown-none : (memory offset : ℕ) → memory ≡ first .place .0 → offset ≡ first .place .1 → (showCode (first .cells) (long .cells) t a ≡ 0 → ⊥)
       → record { place = (memory, offset); cells = [] } ≡ shown first long t a
@@ -80,5 +80,5 @@ module _ (first long : Run) (t : Prefix) (a : ℕ) where
         ∙ cond-on _ _ (leb? pointerBit (firstCell (first .cells) t a)) h)
 
 -- the part from a start to so many cells on
-pub part-on : (r : Run) (start count : ℕ) → part r start (start + count - start) ≡ part r start count
+pub part-on : (r : Seen) (start count : ℕ) → part r start (start + count - start) ≡ part r start count
 part-on r start count = let e : start + count - start ≡ count = omega arith in ap (part r start) e

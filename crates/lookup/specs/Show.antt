@@ -21,21 +21,21 @@ showCode first long t a =
     (cond (contains t a) (cond (isPointer (firstCell first t a) && leb (length long / blockSize) (segmentOf (firstCell first t a))) 4 0) 3)
     1
 
--- a run of lent cells: where it lies, as the memory it is part of and an offset in bytes there, and what it holds
-pub record Run : Type 0 where
+-- lent cells as a program sees them: where they lie, as the memory they are part of and an offset in bytes there, and what they hold
+pub record Seen : Type 0 where
   pub place : ℕ × ℕ
   pub cells : List ℕ
 
--- what a reference to a run shows
-abbrev pub seen : RefT (List ℕ) → Run
+-- what a reference to cells shows
+abbrev pub seen : RefT (List ℕ) → Seen
 seen r = record { place = r .ptr; cells = r .now }
 
--- the part of a run that starts at a cell; a cell has four bytes
-abbrev pub part : Run → ℕ → ℕ → Run
+-- the part of them that starts at a cell; a cell has four bytes
+abbrev pub part : Seen → ℕ → ℕ → Seen
 part r start count = record { place = (r .place .0, start * 4 + r .place .1); cells = take count (drop start (r .cells)) }
 
 -- all cells of the segment that the first cell points to, or the one first cell; with a refusal none, at the start of the first table
-unfoldable pub shown : Run → Run → Prefix → ℕ → Run
+unfoldable pub shown : Seen → Seen → Prefix → ℕ → Seen
 shown first long t a =
     let cell = firstCell (first .cells) t a in
     cond (eqb (showCode (first .cells) (long .cells) t a) 0)

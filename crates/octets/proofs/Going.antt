@@ -15,7 +15,7 @@ use Rattle.prefix.specs.declared.Prefix.{Prefix}
 use Rattle.cells.specs.Memory.{lentToRead}
 use Rattle.lookup.specs.Lookup.{unpackedOf}
 use Rattle.lookup.proofs.Answers.{Told, told-look, unpacked}
-use Rattle.bulk.proofs.Answering.{Asked, asked?}
+use Rattle.bulk.proofs.Answering.{MayAnswer, mayAnswer?}
 use Rattle.bulk.specs.All.{answerOf}
 use Rattle.octets.specs.Words.{wordCount}
 use Rattle.octets.specs.Booking.{Outcome}
@@ -110,11 +110,11 @@ hops-small first long t xs ys e = subst HopsFit (sym e) (go xs)
 module _ (first long : List ℕ) (t : Prefix) (addresses amounts codes words : List ℕ) where
   -- what the call asks
   abbrev Asks : Type 0
-  Asks = ((length words ≡ wordCount) × (length amounts ≡ length addresses)) × Asked first long t addresses codes
+  Asks = ((length words ≡ wordCount) × (length amounts ≡ length addresses)) × MayAnswer first long t addresses codes
 
   asks? : Decides Asks (eqb (length words) wordCount && eqb (length amounts) (length addresses)
       && (lentToRead (length first) (length long) t && eqb (length addresses) (length codes)))
-  asks? = and? (and? (eqb? (length words) wordCount) (eqb? (length amounts) (length addresses))) (asked? first long t addresses codes)
+  asks? = and? (and? (eqb? (length words) wordCount) (eqb? (length amounts) (length addresses))) (mayAnswer? first long t addresses codes)
 
   pub refused-whole : (Asks → ⊥) → {cs : List ℕ} → cs ≡ codes
       → record { code = 1; words = words; codes = cs } ≡ bookAll first long t addresses amounts codes words

@@ -33,7 +33,7 @@ pub fn clear_octets(octets: &mut [u64]) -> u32
 
 // What of look up's numbers refuses a record: all but 8. It is selected and not jumped to, since no processor foresees whether the next
 // address has a route.
-fn refusal(code: u32) -> u32
+fn refusal_of(code: u32) -> u32
     ensures { λ r. ⌜ r ≡ refusalOf code ⌝ }
 {
     if code == 8 { 0 } else { code }
@@ -44,7 +44,7 @@ fn enter(octets: &mut [u64], answer: Answer, amount: u64) -> u32
     requires { ⌜ (length (now octets) ≡ wordCount) × (answer .hop ≤ lastHop) ⌝ }
     ensures { λ r. ⌜ record { code = r; words = now (octets .exit) } ≡ enter answer amount (now (octets .entry)) ⌝ }
 {
-    let refused = refusal(answer.code);
+    let refused = refusal_of(answer.code);
     if refused != 0 {
         return refused;
     }

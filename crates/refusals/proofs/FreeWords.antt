@@ -7,18 +7,18 @@ use native.Mathlib.Omega.{arith}
 use lib.Dec.{eqb}
 use lib.ListN.{length}
 use Rattle.ground.proofs.Tests.{eqb?, iff?, same-test}
-use Rattle.rules.specs.Rules.{live}
+use Rattle.rules.specs.Rules.{liveWords}
 use Rattle.rules.specs.inner.Places.{Listed}
 use Rattle.cells.specs.Memory.{noZero, lowestFree}
 use Rattle.cells.proofs.FreeSegments.{noZero?}
 
 -- the first word that is 0 stands after the words before it
-pub lowest-live : (ws : List ℕ) → lowestFree ws ≡ length (live ws)
-unfolding lowestFree live
+pub lowest-live : (ws : List ℕ) → lowestFree ws ≡ length (liveWords ws)
+unfolding lowestFree liveWords
 lowest-live [] = refl
 lowest-live (w ∷ ws) = go (eqb w 0) (lowest-live ws)
   where
-    go : (t : Bool) → lowestFree ws ≡ length (live ws) → cond t 0 (suc (lowestFree ws)) ≡ length (cond t [] (w ∷ live ws))
+    go : (t : Bool) → lowestFree ws ≡ length (liveWords ws) → cond t 0 (suc (lowestFree ws)) ≡ length (cond t [] (w ∷ liveWords ws))
     go true e = refl
     go false e = ap suc e
 

@@ -26,7 +26,7 @@ use Rattle.rules.proofs.Indices.{isLive?}
 use Rattle.refusals.specs.declared.codes.Checked.{Checked}
 use Rattle.refusals.specs.Damage.{undamaged}
 use Rattle.refusals.specs.Codes.{Call, change, tested, unlessLive, unlessRoom, own, code}
-use Rattle.refusals.specs.inner.Checks.{Told, unlessDamaged, never, Asked}
+use Rattle.refusals.specs.inner.Checks.{Learnt, unlessDamaged, never, Asked}
 use Rattle.refusals.proofs.FreeWords.{all-live}
 use Rattle.refusals.proofs.Soundness.{BlockSound, Undamaged, undamaged?}
 
@@ -34,7 +34,7 @@ use Rattle.refusals.proofs.Soundness.{BlockSound, Undamaged, undamaged?
 
 -- what refusals 1 to 4 let pass
 pub record Admitted (t : Prefix) (c : Change) (m : Lent) : Type 0 where
-  pub lent : IsLent m t
+  pub lent : IsLent t m
   pub numbers : isChange c ≡ true
   pub inside : Encloses t (named c)
   pub sound : Undamaged t (named c) m
@@ -52,11 +52,11 @@ not-picked false f z = (refl, z)
 tested-0 : (t : Prefix) (c : Change) (m : Lent) (next : ℕ) → tested t c m next ≡ 0 → Admitted t c m × (next ≡ 0)
 unfolding tested
 tested-0 t c m next e =
-    let w = not-picked (not (isLent m t)) (λ z. omega arith) e in
+    let w = not-picked (not (isLent t m)) (λ z. omega arith) e in
     let x = not-picked (not (isChange c)) (λ z. omega arith) (w .1) in
     let y = not-picked (not (encloses t (named c))) (λ z. omega arith) (x .1) in
     let z = not-picked (not (undamaged t (named c) m)) (λ z. omega arith) (y .1) in
-    let lent = if-so (isLent? m t) refl (w .0) in
+    let lent = if-so (isLent? t m) refl (w .0) in
     (record { lent = lent; numbers = not-false _ (x .0); inside = if-so (encloses? _ _) refl (y .0); sound = if-so (undamaged? _ _ m) refl (z .0) }, z .1)
 
 pub admitted : (t : Prefix) (c : Call) (m : Lent) → code t c m ≡ 0 → Admitted t (change c) m × (own t c m ≡ 0)
@@ -109,11 +109,11 @@ abbrev number : Bool → Bool → Bool → Bool → ℕ → ℕ
 number a b c d next = cond (not a) 1 (cond (not b) 2 (cond (not c) 3 (cond (not d) 4 next)))
 
 -- refusals 1 to 4 of a change of p, where `lets` says whether refusal 2 lets its numbers pass
-pub by-tests : (t : Prefix) {c : Change} {p : Prefix} {lets : Bool} (m : Lent) → Asked c p lets → {x y z : Bool} → isLent m t ≡ x → lets ≡ y
+pub by-tests : (t : Prefix) {c : Change} {p : Prefix} {lets : Bool} (m : Lent) → Asked c p lets → {x y z : Bool} → isLent t m ≡ x → lets ≡ y
     → encloses t p ≡ z → cond (not x) 1 (cond (not y) 2 (cond (not z) 3 (unlessDamaged t p m))) ≡ tested t c m 0
 unfolding tested unlessDamaged
 by-tests t m a e f g =
-    rw (← e, ← f, ← g) (ap₂ (λ (q : Prefix) (b : Bool). number (isLent m t) b (encloses t q) (undamaged t q m) 0) (sym (a .names)) (a .numbers))
+    rw (← e, ← f, ← g) (ap₂ (λ (q : Prefix) (b : Bool). number (isLent t m) b (encloses t q) (undamaged t q m) 0) (sym (a .names)) (a .numbers))
 
 pub by-damage : (t p : Prefix) (m : Lent) {x : Bool} → undamaged t p m ≡ x → cond (not x) 4 0 ≡ unlessDamaged t p m
 unfolding unlessDamaged
@@ -131,7 +131,7 @@ by-room t p m e f g = rw (e, f, g)
 -- where refusals 1 to 4 answer another number than 0, that is all, and else what follows is
 after-4 : (t : Prefix) (c : Change) (m : Lent) (next : ℕ) → cond (eqb (tested t c m 0) 0) next (tested t c m 0) ≡ tested t c m next
 unfolding tested
-after-4 t c m next = go (isLent m t) (isChange c) (encloses t (named c)) (undamaged t (named c) m)
+after-4 t c m next = go (isLent t m) (isChange c) (encloses t (named c)) (undamaged t (named c) m)
   where
     go : (w x y z : Bool) → cond (eqb (number w x y z 0) 0) next (number w x y z 0) ≡ number w x y z next
     go true true true true = refl
@@ -144,7 +144,7 @@ after-4 t c m next = go (isLent m t) (isChange c) (encloses t (named c)) (undama
 
 module _ {t p : Prefix} {m : Lent} where
   -- the code is the number at which the tests stop
-  pub refused-is : {answer : Lent → ℕ} {opened : Tables → Bool} {k : ℕ} {r : Checked} → k ≡ answer m → r .code ≡ k → ¬ (k ≡ 0) → Told t p answer opened m r
+  pub refused-is : {answer : Lent → ℕ} {opening : Tables → Bool} {k : ℕ} {r : Checked} → k ≡ answer m → r .code ≡ k → ¬ (k ≡ 0) → Learnt t p answer opening m r
   refused-is a e n = record {
     number = e ∙ a;
     listed = λ z. absurd (n (sym e ∙ z));
@@ -155,8 +155,8 @@ module _ {t p : Prefix} {m : Lent} where
   }
 
   -- by another name
-  pub told-as : {a b : Lent → ℕ} {x y : Tables → Bool} {r : Checked} → Told t p a x m r → a m ≡ b m → (r .code ≡ 0 → x (m .tables) ≡ y (m .tables)) → Told t p b y m r
-  told-as k e f = record {
+  pub learnt-as : {a b : Lent → ℕ} {x y : Tables → Bool} {r : Checked} → Learnt t p a x m r → a m ≡ b m → (r .code ≡ 0 → x (m .tables) ≡ y (m .tables)) → Learnt t p b y m r
+  learnt-as k e f = record {
     number = k .number ∙ e;
     listed = k .listed;
     place = k .place;
@@ -166,10 +166,10 @@ module _ {t p : Prefix} {m : Lent} where
   }
 
 -- x is what refusals 1 to 4 answered
-module _ (c : Change) {t p : Prefix} {m : Lent} {x : Checked} (k : Told t p (λ n. tested t c n 0) never m x) where
-  pub stays : (next : Lent → ℕ) {opened : Tables → Bool} → ¬ (x .code ≡ 0) → Told t p (λ n. tested t c n (next n)) opened m x
+module _ (c : Change) {t p : Prefix} {m : Lent} {x : Checked} (k : Learnt t p (λ n. tested t c n 0) never m x) where
+  pub stays : (next : Lent → ℕ) {opening : Tables → Bool} → ¬ (x .code ≡ 0) → Learnt t p (λ n. tested t c n (next n)) opening m x
   stays next n =
-      told-as k (sym (cond-off (next m) (tested t c m 0) (eqb? (tested t c m 0) 0) (λ z. n (k .number ∙ z))) ∙ after-4 t c m (next m)) (λ z. absurd (n z))
+      learnt-as k (sym (cond-off (next m) (tested t c m 0) (eqb? (tested t c m 0) 0) (λ z. n (k .number ∙ z))) ∙ after-4 t c m (next m)) (λ z. absurd (n z))
 
   module _ (zero : x .code ≡ 0) where
     pub goes-on : {number next : ℕ} → number ≡ next → number ≡ tested t c m next
@@ -179,5 +179,5 @@ module _ (c : Change) {t p : Prefix} {m : Lent} {x : Checked} (k : Told t p (λ 
     let-pass = tested-0 t c m 0 (sym (k .number) ∙ zero) .0
 
     -- no room, by the live rules and their number
-    pub full : not (x .place .live) && eqb (x .live) (length (m .rules)) ≡ not (isLive p (routes (m .rules))) && noZero (m .rules)
-    full = ap₂ (λ (a b : Bool). not a && b) (k .place zero .live) (all-live (m .rules) (x .live) (k .listed zero))
+    pub full : not (x .place .found) && eqb (x .used) (length (m .rules)) ≡ not (isLive p (routes (m .rules))) && noZero (m .rules)
+    full = ap₂ (λ (a b : Bool). not a && b) (k .place zero .is-live) (all-live (m .rules) (x .used) (k .listed zero))

@@ -18,10 +18,10 @@ use Rattle.cells.specs.Cells.{pointerBit}
 use Rattle.cells.specs.Memory.{Tables, Sized}
 use Rattle.rules.specs.Rules.{routes}
 use Rattle.rules.specs.inner.Places.{Listed}
-use Rattle.rules.specs.inner.Blocks.{Reached, StretchIs, PassedIs}
+use Rattle.rules.specs.inner.Blocks.{CursorAt, StretchIs, PassedIs}
 use Rattle.refusals.specs.inner.Walk.{BlocksLent}
 use Rattle.refusals.proofs.Soundness.{Clean, CleanRun, clean-below, SoundBy, BlockSound, SoundTo}
-use Rattle.rules.proofs.Cursor.{reached-between, open-between}
+use Rattle.rules.proofs.Cursor.{cursor-between, open-between}
 
 -- a block that has a cell starts at an address
 pub start-within : {t : Prefix} {tables : Tables} → Sized t tables → t .address < 2 ^ 32 → (k : ℕ) → k < length (tables .first) → blockStart t k < 2 ^ 32
@@ -37,7 +37,7 @@ touched-lent s w e = record {
 -- the blocks from `from` to before `block` are sound, and the cursor stands at the start of `block`
 pub record Walked (t : Prefix) (tables : Tables) (ws : List ℕ) (n from block at : ℕ) : Type 0 where
   pub forward : from ≤ block
-  pub reached : Reached ws n (blockStart t block) at
+  pub cursor : CursorAt ws n (blockStart t block) at
   pub sound : SoundTo t (routes ws) tables from block
 
 -- the next k blocks are before the next rule's
@@ -46,8 +46,8 @@ module _ {t : Prefix} {tables : Tables} {ws : List ℕ} {n from block at left k 
   -- they are closed
   shut : (j : ℕ) → block ≤ j → j < block + k → isOpen (routes ws) (blockStart t j) ≡ false
   shut j l m =
-      let stands : (a : ℕ) → blockStart t block ≤ a → a ≤ start + blockSize * k → Reached ws n a at =
-      λ a low high. reached-between ws n (blockStart t block) a (start + blockSize * k) at low high (w .reached) (h .reached) in
+      let stands : (a : ℕ) → blockStart t block ≤ a → a ≤ start + blockSize * k → CursorAt ws n a at =
+      λ a low high. cursor-between ws n (blockStart t block) a (start + blockSize * k) at low high (w .cursor) (h .cursor) in
       stops (opened? width (routes ws) (blockStart t j)) (λ o.
       let i = open-between ws n (blockStart t j) at at s (omega (arith, aligned (z .territory)))
       (stands (blockStart t j) (omega arith) (omega arith)) (stands (blockStart t j + blockSize) (omega arith) (omega arith)) .0 o in
@@ -80,7 +80,7 @@ module _ {t : Prefix} {tables : Tables} {ws : List ℕ} {n from block at left k 
         → Walked t tables ws n from on next
     walked-on q clean b = record {
       forward = omega (arith, w .forward);
-      reached = subst (λ (a : ℕ). Reached ws n a next) (omega arith) (p .reached);
+      cursor = subst (λ (a : ℕ). CursorAt ws n a next) (omega arith) (p .cursor);
       sound = λ j l m. by-lt j (block + k) (sound-run clean j l) (λ past.
           subst (BlockSound t (routes ws) tables) (omega arith) (subst (SoundBy tables (block + k)) opened-is b));
     }

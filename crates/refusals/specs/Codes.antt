@@ -24,7 +24,7 @@ change (re-homes r) = puts r
 -- refusals 1 to 4, which are those of every change; else what follows
 unfoldable pub tested : Prefix → Change → Lent → ℕ → ℕ
 tested t c m next =
-    cond (not (isLent m t)) 1
+    cond (not (isLent t m)) 1
     (cond (not (isChange c)) 2
     (cond (not (encloses t (named c))) 3
     (cond (not (undamaged t (named c) m)) 4
@@ -52,4 +52,4 @@ code t c m = tested t (change c) m (own t c m)
 
 -- clear
 unfoldable pub clearCode : Prefix → Lent → ℕ
-clearCode t m = cond (not (isLent m t)) 1 0
+clearCode t m = cond (not (isLent t m)) 1 0

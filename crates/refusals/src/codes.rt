@@ -7,7 +7,7 @@ ghost use Rattle.prefix.specs.Routes.{isRoute};
 ghost use Rattle.rules.specs.Words.{routeBy};
 ghost use Rattle.cells.specs.Memory.{IsLent, lent, lentIn};
 ghost use Rattle.refusals.specs.Codes.{announces, withdraws, re-homes, clearCode};
-ghost use Rattle.refusals.specs.inner.Checks.{CheckedIs, Told, unlessDamaged, never, TestsTell, LiveTestsTell};
+ghost use Rattle.refusals.specs.inner.Checks.{CheckedIs, Learnt, unlessDamaged, never, TestsTell, LiveTestsTell};
 use crate::damage::blocks_sound;
 use cells::segments::free_segment;
 use cells::segments::needs_segment;
@@ -24,7 +24,7 @@ use rules::list::find;
 // segment is opened for it, and which.
 pub struct Checked {
     pub code: u32,
-    pub live: usize,
+    pub used: usize,
     pub place: Place,
     pub blocks: Blocks,
     pub opens: bool,
@@ -36,8 +36,11 @@ fn refused(code: u32) -> Checked
 {
     Checked {
         code,
-        live: 0,
-        place: Place { at: 0, live: false },
+        used: 0,
+        place: Place {
+            at: 0,
+            found: false,
+        },
         blocks: Blocks { from: 0, count: 0 },
         opens: false,
         segment: 0,
@@ -66,23 +69,23 @@ fn damage_tests(
     territory: Prefix,
     prefix: Prefix,
 ) -> Checked
-    requires { ⌜ IsLent (lent first long owners rules) territory ⌝ }
+    requires { ⌜ IsLent territory (lent first long owners rules) ⌝ }
     requires { ⌜ WellFormed prefix × Encloses territory prefix ⌝ }
-    ensures { λ r. ⌜ Told territory prefix (unlessDamaged territory prefix) never (lentIn first long owners rules) r ⌝ }
+    ensures { λ r. ⌜ Learnt territory prefix (unlessDamaged territory prefix) never (lentIn first long owners rules) r ⌝ }
 {
     let form = form_of(rules, territory);
-    let live = form.live;
+    let used = form.used;
     if !form.formed {
         return refused(4);
     }
     let blocks = touched(territory, prefix);
-    if !blocks_sound(first, long, owners, rules, live, territory, blocks) {
+    if !blocks_sound(first, long, owners, rules, used, territory, blocks) {
         return refused(4);
     }
-    let place = find(rules, live, prefix);
+    let place = find(rules, used, prefix);
     Checked {
         code: 0,
-        live,
+        used,
         place,
         blocks,
         opens: false,
@@ -138,20 +141,20 @@ fn live_tests(
     if checked.code != 0 {
         return checked;
     }
-    if !checked.place.live {
+    if !checked.place.found {
         return refused(5);
     }
     checked
 }
 
 // Whether there is no room for a prefix in the list: it is not live, and each word is.
-fn is_full(found: bool, live: usize, words: usize) -> bool
-    ensures { λ r. ⌜ r ≡ (not found && eqb live words) ⌝ }
+fn is_full(found: bool, used: usize, words: usize) -> bool
+    ensures { λ r. ⌜ r ≡ (not found && eqb used words) ⌝ }
 {
     if found {
         return false;
     }
-    live == words
+    used == words
 }
 
 // The refusal of an announce: 1 to 4, 6 and 7.
@@ -179,7 +182,7 @@ pub fn announce_checked(
         return checked;
     }
     let place = checked.place;
-    if is_full(place.live, checked.live, rules.len()) {
+    if is_full(place.found, checked.used, rules.len()) {
         return refused(6);
     }
     let blocks = checked.blocks;
@@ -193,7 +196,7 @@ pub fn announce_checked(
     }
     Checked {
         code: checked.code,
-        live: checked.live,
+        used: checked.used,
         place,
         blocks,
         opens: true,

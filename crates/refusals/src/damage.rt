@@ -13,8 +13,8 @@ use prefix::Prefix;
 use prefix::geometry::Block;
 use prefix::geometry::Blocks;
 use prefix::geometry::block_start;
+use rules::blocks::cursor_at;
 use rules::blocks::pass;
-use rules::blocks::reach;
 use rules::blocks::stretch;
 
 // Whether the cell is 0 or direct, with a length of at most `longest`.
@@ -81,12 +81,12 @@ fn walk(
     long: &[u32],
     owners: &[u32],
     rules: &[u64],
-    live: usize,
+    used: usize,
     territory: Prefix,
     blocks: Blocks,
     at: usize,
 ) -> bool
-    requires { ⌜ MayWalk territory blocks (tables first long owners) (now rules) live at ⌝ }
+    requires { ⌜ MayWalk territory blocks (tables first long owners) (now rules) used at ⌝ }
     ensures { λ r. ⌜ r ≡ soundRun territory blocks (routes (now (rules .entry))) (tablesIn first long owners) ⌝ }
 {
     let end = blocks.from + blocks.count;
@@ -94,7 +94,7 @@ fn walk(
     let mut here = at;
     while block < end {
         let start = block_start(territory, block);
-        let closed = stretch(rules, live, here, start as u64, end - block);
+        let closed = stretch(rules, used, here, start as u64, end - block);
         if !clean_run(first, Block::WIDTH, block, closed) {
             return false;
         }
@@ -103,7 +103,7 @@ fn walk(
             return true;
         }
         let next = block_start(territory, stop);
-        let cursor = pass(rules, live, here, next as u64);
+        let cursor = pass(rules, used, here, next as u64);
         if !block_sound(first, long, owners, stop, cursor.opened) {
             return false;
         }
@@ -119,15 +119,15 @@ pub fn blocks_sound(
     long: &[u32],
     owners: &[u32],
     rules: &[u64],
-    live: usize,
+    used: usize,
     territory: Prefix,
     blocks: Blocks,
 ) -> bool
     requires { ⌜ Sized territory (tables first long owners) × BlocksLent blocks (tables first long owners) ⌝ }
-    requires { ⌜ Listed (now rules) live ⌝ }
+    requires { ⌜ Listed (now rules) used ⌝ }
     ensures { λ r. ⌜ r ≡ soundRun territory blocks (routes (now (rules .entry))) (tablesIn first long owners) ⌝ }
 {
     let start = block_start(territory, blocks.from);
-    let at = reach(rules, live, start);
-    walk(first, long, owners, rules, live, territory, blocks, at)
+    let at = cursor_at(rules, used, start);
+    walk(first, long, owners, rules, used, territory, blocks, at)
 }

@@ -30,7 +30,7 @@ module _ {ws : List ℕ} {n : ℕ} {p : Prefix} {at : ℕ} {found : Bool} (s : L
   -- a live prefix is at the place
   pub place-live : found ≡ true → (at < n) × (prefixAt ws at ≡ p)
   place-live y =
-      let h = live-at-place s w (q .position) (says (isLive? p (routes ws)) (sym (q .live) ∙ y)) in
+      let h = live-at-place s w (q .position) (says (isLive? p (routes ws)) (sym (q .is-live) ∙ y)) in
       (h .0, key-prefix s w (q .position) at (h .0) (h .1))
 
   -- one that is not live comes before all from the place on
@@ -38,7 +38,7 @@ module _ {ws : List ℕ} {n : ℕ} {p : Prefix} {at : ℕ} {found : Bool} (s : L
   above y i l h =
       by-cmp (keyAt ws i) (keyOf p)
       (λ less. absurd (omega (arith, q .position .above i l h)))
-      (λ e. absurd (denies (isLive? p (routes ws)) (sym (q .live) ∙ y)
+      (λ e. absurd (denies (isLive? p (routes ws)) (sym (q .is-live) ∙ y)
       (routeOf (getD ws i 0), index-routes ws i (omega (arith, s .count)) refl, key-prefix s w (q .position) i h e)))
       (λ more. word-order p (prefixAt ws i) (w .short) (listed-short s i h) .0 more)
 

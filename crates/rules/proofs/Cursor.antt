@@ -18,16 +18,16 @@ use Rattle.prefix.proofs.Blocks.{Opened, opened?}
 use Rattle.rules.specs.Words.{routeOf, keyOf}
 use Rattle.rules.specs.Rules.{routes}
 use Rattle.rules.specs.inner.Places.{Listed, prefixAt, PositionIs}
-use Rattle.rules.specs.inner.Blocks.{Reached, StretchIs, PassedIs}
+use Rattle.rules.specs.inner.Blocks.{CursorAt, StretchIs, PassedIs}
 use Rattle.rules.proofs.Words.{key-from}
 use Rattle.rules.proofs.Indices.{routes-index, index-routes, listed-short, keys-rise}
 
 -- ---- where it stands
 
 -- at the place of the shortest prefix of the address
-pub reached-from : {ws : List ℕ} {n k at : ℕ} (a : ℕ) → Listed ws n → k ≡ keyOf (record { address = a; length = 0 }) → PositionIs ws n k at
-    → Reached ws n a at
-reached-from {ws} {n} a s e q = record {
+pub cursor-from : {ws : List ℕ} {n k at : ℕ} (a : ℕ) → Listed ws n → k ≡ keyOf (record { address = a; length = 0 }) → PositionIs ws n k at
+    → CursorAt ws n a at
+cursor-from {ws} {n} a s e q = record {
   within = q .within;
   below = λ i l. from i (omega (arith, q .within)) .0 (omega (arith, q .below i l));
   above = λ i l m. by-lt (prefixAt ws i .address) a (λ h. absurd (omega (arith, q .above i l m, from i m .1 h))) (λ h. h);
@@ -37,25 +37,25 @@ reached-from {ws} {n} a s e q = record {
     from i l = key-from a (prefixAt ws i) (listed-short s i l)
 
 -- it stands where it stood while no rule's address is passed
-pub reached-between : (ws : List ℕ) (n a b c at : ℕ) → a ≤ b → b ≤ c → Reached ws n a at → Reached ws n c at → Reached ws n b at
-reached-between ws n a b c at h k p q = record {
+pub cursor-between : (ws : List ℕ) (n a b c at : ℕ) → a ≤ b → b ≤ c → CursorAt ws n a at → CursorAt ws n c at → CursorAt ws n b at
+cursor-between ws n a b c at h k p q = record {
   within = p .within;
   below = λ i l. omega (arith, p .below i l);
   above = λ i l m. omega (arith, q .above i l m);
 }
 
 -- it stands at i where every rule before i has an address below b, and the rule at i has not
-reached-at : {ws : List ℕ} {n b i : ℕ} → Listed ws n → i ≤ n → ((k : ℕ) → k < i → prefixAt ws k .address < b) → (i < n → b ≤ prefixAt ws i .address) → Reached ws n b i
-reached-at {i = i} s h below e = record {
+cursor-by : {ws : List ℕ} {n b i : ℕ} → Listed ws n → i ≤ n → ((k : ℕ) → k < i → prefixAt ws k .address < b) → (i < n → b ≤ prefixAt ws i .address) → CursorAt ws n b i
+cursor-by {i = i} s h below e = record {
   within = h;
   below = below;
   above = λ k l m. omega (arith, e (omega arith), keys-rise s i k l m, listed-short s i (omega arith), listed-short s k m);
 }
 
 -- up to k blocks on, where the rule at the cursor has its address past them
-pub stretch-to : {ws : List ℕ} {n at a left : ℕ} (k : ℕ) → Listed ws n → Reached ws n a at → k ≤ left
+pub stretch-to : {ws : List ℕ} {n at a left : ℕ} (k : ℕ) → Listed ws n → CursorAt ws n a at → k ≤ left
     → (at < n → a + blockSize * k ≤ prefixAt ws at .address) → StretchIs ws n at a left k
-stretch-to k s p h e = record { within = h; reached = reached-at s (p .within) (λ i l. omega (arith, p .below i l)) e }
+stretch-to k s p h e = record { within = h; cursor = cursor-by s (p .within) (λ i l. omega (arith, p .below i l)) e }
 
 -- ---- open blocks
 
@@ -65,7 +65,7 @@ LongIn ws at next = (i : ℕ) × (at ≤ i) × (i < next) × (width < prefixAt w
 
 -- The rules whose address lies in a block stand between the cursor at its start and the cursor at its end, so the block is open
 -- exactly if one of them is longer than 24.
-pub open-between : (ws : List ℕ) (n a at next : ℕ) → Listed ws n → a % blockSize ≡ 0 → Reached ws n a at → Reached ws n (a + blockSize) next
+pub open-between : (ws : List ℕ) (n a at next : ℕ) → Listed ws n → a % blockSize ≡ 0 → CursorAt ws n a at → CursorAt ws n (a + blockSize) next
     → Opened width (routes ws) a ↔ LongIn ws at next
 unfolding top
 open-between ws n a at next s z p q = (to, from)
@@ -98,7 +98,7 @@ pub record Passing (ws : List ℕ) (n a at i : ℕ) (opened : Bool) : Type 0 whe
   pub below : (k : ℕ) → k < i → prefixAt ws k .address < a + blockSize
   pub long : Decides (LongIn ws at i) opened
 
-pub passing-start : (ws : List ℕ) (n a at : ℕ) → Reached ws n a at → Passing ws n a at at false
+pub passing-start : (ws : List ℕ) (n a at : ℕ) → CursorAt ws n a at → Passing ws n a at at false
 passing-start ws n a at p = record {
   from = omega arith;
   within = p .within;
@@ -125,12 +125,12 @@ passing-more ws n a at i opened p l h = record {
         inr (subst (λ (j : ℕ). width < prefixAt ws j .length) (omega (arith, k .2)) (k .3)))
 
 -- at the end of the block, or of the list
-pub passing-met : (ws : List ℕ) (n a at i : ℕ) (opened : Bool) → Listed ws n → a % blockSize ≡ 0 → Reached ws n a at
+pub passing-met : (ws : List ℕ) (n a at i : ℕ) (opened : Bool) → Listed ws n → a % blockSize ≡ 0 → CursorAt ws n a at
     → Passing ws n a at i opened → (i < n → a + blockSize ≤ prefixAt ws i .address) → PassedIs ws n a i opened
 passing-met ws n a at i opened s z p q e = record {
-  reached = reached;
-  opened = let o = open-between ws n a at i s z p reached in same-test (q .long) (iff? (opened? width (routes ws) a) (o .0) (o .1));
+  cursor = cursor;
+  opened = let o = open-between ws n a at i s z p cursor in same-test (q .long) (iff? (opened? width (routes ws) a) (o .0) (o .1));
 }
   where
-    reached : Reached ws n (a + blockSize) i
-    reached = reached-at s (q .within) (q .below) e
+    cursor : CursorAt ws n (a + blockSize) i
+    cursor = cursor-by s (q .within) (q .below) e

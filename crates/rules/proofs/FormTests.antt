@@ -17,7 +17,7 @@ use Rattle.prefix.specs.Prefixes.{Before}
 use Rattle.prefix.specs.Routes.{Route, IsRoute, Ascending}
 use Rattle.prefix.proofs.Order.{before?}
 use Rattle.rules.specs.Words.{prefixOf, routeOf, isRule, IsRule}
-use Rattle.rules.specs.Rules.{live, routes, every, ascending, formed, Formed}
+use Rattle.rules.specs.Rules.{liveWords, routes, every, ascending, formed, Formed}
 use Rattle.rules.specs.inner.Places.{Listed}
 use Rattle.rules.proofs.Words.{isRule?}
 
@@ -86,15 +86,15 @@ ascending? (w ∷ ws) =
 pub formed? : (t : Prefix) (ws : List ℕ) → Decides (Formed t ws) (formed t ws)
 unfolding formed routes
 formed? t ws =
-    iff? (and? (and? (every? (IsRule t) (isRule t) (isRule? t) (live ws)) (ascending? (live ws))) (zeros? ws (length (live ws))))
+    iff? (and? (and? (every? (IsRule t) (isRule t) (isRule? t) (liveWords ws)) (ascending? (liveWords ws))) (zeros? ws (length (liveWords ws))))
     (λ h. record { rules = h .0 .0; order = h .0 .1; rest = h .1 })
     (λ f. ((f .rules, f .order), f .rest))
 
-pub formed-listed : {t : Prefix} {ws : List ℕ} → Formed t ws → Listed ws (length (live ws))
+pub formed-listed : {t : Prefix} {ws : List ℕ} → Formed t ws → Listed ws (length (liveWords ws))
 unfolding routes
 formed-listed {ws = ws} f = record {
   count = refl;
-  all = λ r m. let w = Memᴰ·of-map routeOf (live ws) m in subst IsRoute (w .2) (f .rules (w .0) (w .1) .route);
+  all = λ r m. let w = Memᴰ·of-map routeOf (liveWords ws) m in subst IsRoute (w .2) (f .rules (w .0) (w .1) .route);
   order = f .order;
   rest = f .rest;
 }

@@ -14,24 +14,24 @@ use Rattle.prefix.specs.Prefixes.{Before}
 use Rattle.prefix.specs.Routes.{Route, IsRoute, Ascending}
 use Rattle.prefix.proofs.Order.{key, samePrefix?}
 use Rattle.rules.specs.Words.{prefixOf, routeOf}
-use Rattle.rules.specs.Rules.{live, routes, isLive}
+use Rattle.rules.specs.Rules.{liveWords, routes, isLive}
 use Rattle.rules.specs.inner.Places.{Listed, prefixAt, keyAt}
 use Rattle.rules.proofs.Words.{key-less, word-order}
 use Rattle.rules.proofs.LiveWords.{live-at, live-within}
 
 -- ---- members
 
-pub routes-index : {r : Route} (ws : List ℕ) → Mem r (routes ws) → (i : ℕ) × (i < length (live ws)) × (routeOf (getD ws i 0) ≡ r)
+pub routes-index : {r : Route} (ws : List ℕ) → Mem r (routes ws) → (i : ℕ) × (i < length (liveWords ws)) × (routeOf (getD ws i 0) ≡ r)
 unfolding routes
 routes-index ws m =
-    let w = Memᴰ·of-map routeOf (live ws) m in
-    let i = mem-index 0 (live ws) (w .1) in
+    let w = Memᴰ·of-map routeOf (liveWords ws) m in
+    let i = mem-index 0 (liveWords ws) (w .1) in
     (i .0, i .1, ap routeOf (sym (live-at ws (i .0) (i .1)) ∙ i .2) ∙ w .2)
 
-pub index-routes : {r : Route} (ws : List ℕ) (i : ℕ) → i < length (live ws) → routeOf (getD ws i 0) ≡ r → Mem r (routes ws)
+pub index-routes : {r : Route} (ws : List ℕ) (i : ℕ) → i < length (liveWords ws) → routeOf (getD ws i 0) ≡ r → Mem r (routes ws)
 unfolding routes
 index-routes ws i h e =
-    Memᴰ·cast (sym e ∙ ap routeOf (sym (live-at ws i h))) (Memᴰ·map routeOf (index-mem 0 (live ws) i h))
+    Memᴰ·cast (sym e ∙ ap routeOf (sym (live-at ws i h))) (Memᴰ·map routeOf (index-mem 0 (liveWords ws) i h))
 
 -- ---- order
 
@@ -56,16 +56,16 @@ rises-ascending (v ∷ vs) o = (first, rises-ascending vs (λ i j l h. o (suc i)
         subst (λ (r : Route). Before (prefixOf v) (r .prefix)) (ap routeOf (j .2) ∙ w .2)
         (o 0 (suc (j .0)) (omega arith) (omega (arith, j .1)))
 
-pub routes-rise : (ws : List ℕ) → Ascending (routes ws) → Rising ws (length (live ws))
+pub routes-rise : (ws : List ℕ) → Ascending (routes ws) → Rising ws (length (liveWords ws))
 unfolding routes
 routes-rise ws o i j l h =
-    let m = ascending-rises (live ws) o i j l h in
+    let m = ascending-rises (liveWords ws) o i j l h in
     rw (live-at ws i (omega arith), live-at ws j h) at m
 
-pub rise-routes : (ws : List ℕ) → Rising ws (length (live ws)) → Ascending (routes ws)
+pub rise-routes : (ws : List ℕ) → Rising ws (length (liveWords ws)) → Ascending (routes ws)
 unfolding routes
 rise-routes ws o =
-    rises-ascending (live ws) (λ i j l h. rw (live-at ws i (omega arith), live-at ws j h) (o i j l h))
+    rises-ascending (liveWords ws) (λ i j l h. rw (live-at ws i (omega arith), live-at ws j h) (o i j l h))
 
 -- ---- the words of a list that was tested
 

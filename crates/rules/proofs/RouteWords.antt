@@ -9,7 +9,7 @@ use Rattle.prefix.specs.declared.Prefix.{Prefix}
 use Rattle.prefix.specs.Prefixes.{Encloses}
 use Rattle.prefix.specs.Routes.{Route, IsRoute, AllRoutes, Ascending}
 use Rattle.rules.specs.Words.{routeOf, wordOf, IsRule}
-use Rattle.rules.specs.Rules.{live, routes, wordsOf, Formed}
+use Rattle.rules.specs.Rules.{liveWords, routes, wordsOf, Formed}
 use Rattle.rules.proofs.Words.{word-route, route-word, some-route}
 use Rattle.rules.proofs.LiveWords.{live-some, live-none}
 use Rattle.rules.proofs.FormTests.{ZeroFrom}
@@ -24,7 +24,7 @@ route-words : (rs : List Route) → AllRoutes rs → map routeOf (map wordOf rs)
 route-words [] all = refl
 route-words (r ∷ rs) all = ap₂ _∷_ (route-word r (all r (here refl))) (route-words rs (λ s m. all s (there m)))
 
-live-words : (rs : List Route) (k : ℕ) → AllRoutes rs → live (map wordOf rs ++ replicate k 0) ≡ map wordOf rs
+live-words : (rs : List Route) (k : ℕ) → AllRoutes rs → liveWords (map wordOf rs ++ replicate k 0) ≡ map wordOf rs
 live-words [] k all = live-none k
 live-words (r ∷ rs) k all =
     live-some (wordOf r) (map wordOf rs ++ replicate k 0) (some-route r (all r (here refl)))
@@ -54,7 +54,7 @@ pub words-formed : (t : Prefix) (n : ℕ) (rs : List Route) → AllRoutes rs →
     → Formed t (wordsOf n rs)
 unfolding wordsOf
 words-formed t n rs all o inside =
-    let lives : live (wordsOf n rs) ≡ map wordOf rs = live-words rs (n - length rs) all in
+    let lives : liveWords (wordsOf n rs) ≡ map wordOf rs = live-words rs (n - length rs) all in
     record {
       rules = λ w m. is-rule w (Memᴰ·of-map wordOf rs (subst (Mem w) lives m));
       order = subst Ascending (sym (routes-words n rs all)) o;

@@ -90,13 +90,13 @@ module _ {ws : List ℕ} {n : ℕ} {p : Prefix} {k at : ℕ} (s : Listed ws n) (
   pub place-past : at ≡ n → PlaceIs ws n p at false
   place-past end = record {
     position = place-position;
-    live = sym (stops (isLive? p (routes ws)) (λ h. omega (arith, live-at-place s w place-position h .0)));
+    is-live = sym (stops (isLive? p (routes ws)) (λ h. omega (arith, live-at-place s w place-position h .0)));
   }
 
   pub place-within : (x : ℕ) → at < n → x ≡ keyAt ws at → PlaceIs ws n p at (eqb x k)
   place-within x l f = record {
     position = place-position;
-    live = ap₂ eqb f e ∙ same-test (eqb? (keyAt ws at) (keyOf p))
+    is-live = ap₂ eqb f e ∙ same-test (eqb? (keyAt ws at) (keyOf p))
         (iff? (isLive? p (routes ws)) (λ h. live-at-place s w place-position h .1)
         (λ same. (routeOf (getD ws at 0), index-routes ws at (omega (arith, s .count)) refl, key-prefix s w place-position at l same)));
   }

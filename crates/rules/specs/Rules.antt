@@ -12,13 +12,13 @@ use Rattle.prefix.specs.Routes.{Route, Ascending}
 use Rattle.rules.specs.Words.{prefixOf, routeOf, wordOf, isRule, IsRule}
 
 -- the live words: those before the first 0
-unfoldable pub live : List ℕ → List ℕ
-live [] = []
-live (w ∷ ws) = cond (eqb w 0) [] (w ∷ live ws)
+unfoldable pub liveWords : List ℕ → List ℕ
+liveWords [] = []
+liveWords (w ∷ ws) = cond (eqb w 0) [] (w ∷ liveWords ws)
 
 -- the routes that the words stand for
 unfoldable pub routes : List ℕ → List Route
-routes ws = map routeOf (live ws)
+routes ws = map routeOf (liveWords ws)
 
 -- n words: those of the routes, and 0 after them
 unfoldable pub wordsOf : ℕ → List Route → List ℕ
@@ -42,10 +42,10 @@ ascending (w ∷ ws) = every (λ v. before (prefixOf w) (prefixOf v)) ws && asce
 
 -- (A word that is no rule is damage, so what `ascending` says of a length above 32 never decides.)
 unfoldable pub formed : Prefix → List ℕ → Bool
-formed t ws = every (isRule t) (live ws) && ascending (live ws) && every (eqb 0) (drop (length (live ws)) ws)
+formed t ws = every (isRule t) (liveWords ws) && ascending (liveWords ws) && every (eqb 0) (drop (length (liveWords ws)) ws)
 
 -- and as the statement that it decides
 pub record Formed (t : Prefix) (ws : List ℕ) : Type 0 where
-  pub rules : (w : ℕ) → Mem w (live ws) → IsRule t w
+  pub rules : (w : ℕ) → Mem w (liveWords ws) → IsRule t w
   pub order : Ascending (routes ws)
-  pub rest : (i : ℕ) → length (live ws) ≤ i → getD ws i 0 ≡ 0
+  pub rest : (i : ℕ) → length (liveWords ws) ≤ i → getD ws i 0 ≡ 0

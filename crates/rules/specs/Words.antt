@@ -1,4 +1,4 @@
--- One rule word: address * 2 ^ 32 + length * 2 ^ 16 + hop. Only this file knows the layout; all else goes by the laws of `proofs/Words`.
+-- One rule word: address * 2 ^ 32 + length * 2 ^ 16 + hop. Of the specs only this file knows the layout; all else goes by the laws of `proofs/Words`.
 -- Assumes nothing.
 use Prim.Native.Nat.{ℕ, _+_, _*_, _/_, _%_, _^_}
 use mathlib.Core.Bool.{Bool, _&&_}

@@ -14,7 +14,7 @@ use prefix::Prefix;
 // Whether the words have their form, and how many are live if they have.
 pub struct Form {
     pub formed: bool,
-    pub live: usize,
+    pub used: usize,
 }
 
 // Whether the word is a rule of the territory and its key is at least `low`.
@@ -65,9 +65,9 @@ fn rest_zero(rules: &[u64], from: usize) -> bool
 // One pass over the words: a word of 0 is no rule, so the rules in order are the live words exactly if all after them are 0.
 pub fn form_of(rules: &[u64], territory: Prefix) -> Form
     requires { ⌜ Territory territory ⌝ }
-    ensures { λ r. ⌜ FormIs territory (now (rules .entry)) (r .formed) (r .live) ⌝ }
+    ensures { λ r. ⌜ FormIs territory (now (rules .entry)) (r .formed) (r .used) ⌝ }
 {
-    let live = rules_in_order(rules, territory);
-    let formed = rest_zero(rules, live);
-    Form { formed, live }
+    let used = rules_in_order(rules, territory);
+    let formed = rest_zero(rules, used);
+    Form { formed, used }
 }

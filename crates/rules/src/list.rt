@@ -14,16 +14,16 @@ use prefix::Prefix;
 // Where a prefix stands among the live words, or would stand, and whether it is live.
 pub struct Place {
     pub at: usize,
-    pub live: bool,
+    pub found: bool,
 }
 
 // The first index among the live words whose key is at least `key`, or their number. The range is halved at each turn.
-pub fn position(rules: &[u64], live: usize, key: u64) -> usize
-    requires { ⌜ Listed (now rules) live ⌝ }
-    ensures { λ r. ⌜ PositionIs (now (rules .entry)) live key r ⌝ }
+pub fn position(rules: &[u64], used: usize, key: u64) -> usize
+    requires { ⌜ Listed (now rules) used ⌝ }
+    ensures { λ r. ⌜ PositionIs (now (rules .entry)) used key r ⌝ }
 {
     let mut low = 0;
-    let mut high = live;
+    let mut high = used;
     while low < high {
         let middle = low + (high - low) / 2;
         if Rule::key(rules[middle]) < key {
@@ -36,28 +36,28 @@ pub fn position(rules: &[u64], live: usize, key: u64) -> usize
 }
 
 // The place of a prefix.
-pub fn find(rules: &[u64], live: usize, prefix: Prefix) -> Place
-    requires { ⌜ Listed (now rules) live ⌝ }
+pub fn find(rules: &[u64], used: usize, prefix: Prefix) -> Place
+    requires { ⌜ Listed (now rules) used ⌝ }
     requires { ⌜ WellFormed prefix ⌝ }
-    ensures { λ r. ⌜ PlaceIs (now (rules .entry)) live prefix (r .at) (r .live) ⌝ }
+    ensures { λ r. ⌜ PlaceIs (now (rules .entry)) used prefix (r .at) (r .found) ⌝ }
 {
     let key = Rule::key_of(prefix);
-    let at = position(rules, live, key);
-    if at == live {
-        return Place { at, live: false };
+    let at = position(rules, used, key);
+    if at == used {
+        return Place { at, found: false };
     }
     Place {
         at,
-        live: Rule::key(rules[at]) == key,
+        found: Rule::key(rules[at]) == key,
     }
 }
 
 // Puts a word in at index `at`: the live words from there on move up by one.
-fn insert_at(rules: &mut [u64], live: usize, at: usize, word: u64)
-    requires { ⌜ (at ≤ live) × (live < length (now rules)) ⌝ }
-    ensures { λ _. ⌜ now (rules .exit) ≡ insertedAt (now (rules .entry)) live at word ⌝ }
+fn insert_at(rules: &mut [u64], used: usize, at: usize, word: u64)
+    requires { ⌜ (at ≤ used) × (used < length (now rules)) ⌝ }
+    ensures { λ _. ⌜ now (rules .exit) ≡ insertedAt (now (rules .entry)) used at word ⌝ }
 {
-    let mut i = live;
+    let mut i = used;
     while at < i {
         let moved = rules[i - 1];
         rules[i] = moved;
@@ -67,12 +67,12 @@ fn insert_at(rules: &mut [u64], live: usize, at: usize, word: u64)
 }
 
 // Takes the word at index `at` out: the live words after it move down by one, and the last place is 0.
-fn remove_at(rules: &mut [u64], live: usize, at: usize)
-    requires { ⌜ (at < live) × (live ≤ length (now rules)) ⌝ }
-    ensures { λ _. ⌜ now (rules .exit) ≡ removedAt (now (rules .entry)) live at ⌝ }
+fn remove_at(rules: &mut [u64], used: usize, at: usize)
+    requires { ⌜ (at < used) × (used ≤ length (now rules)) ⌝ }
+    ensures { λ _. ⌜ now (rules .exit) ≡ removedAt (now (rules .entry)) used at ⌝ }
 {
     let mut i = at;
-    while i < live - 1 {
+    while i < used - 1 {
         let next = rules[i + 1];
         rules[i] = next;
         i += 1;
@@ -82,30 +82,30 @@ fn remove_at(rules: &mut [u64], live: usize, at: usize)
 
 // Makes a prefix live with a hop, at the place that `find` answered: in the place of its word if it is live, else between the others,
 // for which one word must be free.
-pub fn put(rules: &mut [u64], live: usize, place: Place, prefix: Prefix, hop: u32)
-    requires { ⌜ Listed (now rules) live ⌝ }
-    requires { ⌜ PlaceIs (now rules) live prefix (place .at) (place .live) ⌝ }
+pub fn put(rules: &mut [u64], used: usize, place: Place, prefix: Prefix, hop: u32)
+    requires { ⌜ Listed (now rules) used ⌝ }
+    requires { ⌜ PlaceIs (now rules) used prefix (place .at) (place .found) ⌝ }
     requires { ⌜ IsRoute (routeBy prefix hop) ⌝ }
-    requires { ⌜ (place .live ≡ false → live < length (now rules)) ⌝ }
+    requires { ⌜ (place .found ≡ false → used < length (now rules)) ⌝ }
     ensures { λ _.
         ⌜ now (rules .exit) ≡ wordsOf (length (now (rules .entry))) (with-route (routeBy prefix hop) (routes (now (rules .entry)))) ⌝ }
 {
     let at = place.at;
     let word = Rule::pack(prefix, hop);
-    if place.live {
+    if place.found {
         rules[at] = word;
         return;
     }
-    insert_at(rules, live, at, word);
+    insert_at(rules, used, at, word);
 }
 
 // Takes a live prefix out, at the place that `find` answered.
-pub fn take_out(rules: &mut [u64], live: usize, place: Place, prefix: Prefix)
-    requires { ⌜ Listed (now rules) live ⌝ }
+pub fn take_out(rules: &mut [u64], used: usize, place: Place, prefix: Prefix)
+    requires { ⌜ Listed (now rules) used ⌝ }
     requires { ⌜ WellFormed prefix ⌝ }
-    requires { ⌜ PlaceIs (now rules) live prefix (place .at) (place .live) ⌝ }
-    requires { ⌜ place .live ≡ true ⌝ }
+    requires { ⌜ PlaceIs (now rules) used prefix (place .at) (place .found) ⌝ }
+    requires { ⌜ place .found ≡ true ⌝ }
     ensures { λ _. ⌜ now (rules .exit) ≡ wordsOf (length (now (rules .entry))) (without prefix (routes (now (rules .entry)))) ⌝ }
 {
-    remove_at(rules, live, place.at);
+    remove_at(rules, used, place.at);
 }

@@ -21,7 +21,7 @@ use Rattle.rules.proofs.Indices.{listed-route, listed-short, keys-rise, index-r
 use Rattle.runs.specs.declared.Run.{Run}
 use Rattle.runs.specs.inner.Kept.{Clear, Started, Covers, Kept, RunIs}
 use Rattle.runs.specs.inner.Steps.{around, CountUpTo, NextIs, LowerIs, SkippedIs}
-use Rattle.runs.proofs.Places.{each, past-count, counted}
+use Rattle.runs.proofs.Places.{each-route, past-count, counted}
 use Rattle.runs.proofs.Same.{same-none, same-longest}
 
 abbrev pub runOf : (cell end until at : ℕ) → Run
@@ -40,7 +40,7 @@ module _ {ws : List ℕ} {n i : ℕ} (a : ℕ) (s : Listed ws n) (q : CountUpTo 
   -- a route that contains an address which no word after them contains is one of them
   started-by : (b : ℕ) → Clear ws n i b → (r : Route) → Mem r (routes ws) → Contains (r .prefix) b → r .prefix .address ≤ a
   started-by b clear =
-      each (λ r. Contains (r .prefix) b → r .prefix .address ≤ a) s (λ k h c.
+      each-route (λ r. Contains (r .prefix) b → r .prefix .address ≤ a) s (λ k h c.
       by-lt k i (counted a s q k) (λ ge. absurd (clear k ge h c)))
 
   -- before the next start no word after them contains an address
@@ -78,7 +78,7 @@ module _ {ws : List ℕ} {n i : ℕ} (a : ℕ) (s : Listed ws n) (q : CountUpTo 
     run-found {r} cell end until at l e u ends counts =
         subst (λ (x : ℕ). RunIs ws n a (runOf cell end until x)) (sym counts)
         (run-by cell end until
-        (subst (λ (x : ℕ). a < x) (sym u) (in-range (s .all r (l .live) .formed) (l .contains) .1)) ends (λ b from h clear.
+        (subst (λ (x : ℕ). a < x) (sym u) (in-range (s .all r (l .member) .formed) (l .contains) .1)) ends (λ b from h clear.
         let same = same-longest (s .all) b from (started-by b clear) l (subst (λ (x : ℕ). b < x) u h) in
         e ∙ sym (ap cellOf (same ∙ is-best (s .all) (s .order) (found r refl l)))))
 

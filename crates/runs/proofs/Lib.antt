@@ -3,4 +3,4 @@ mod Matches
 mod Same
 mod Places
 pub mod Covered
-mod Counted
+mod SharedBits

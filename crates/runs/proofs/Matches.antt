@@ -44,8 +44,8 @@ abbrev pub UpTo : List Route → ℕ → ℕ → Type 0
 UpTo rs a l = (r : Route) → Mem r rs → Contains (r .prefix) a → r .prefix .length ≤ l
 
 -- w is the last route whose key is at most k
-pub record Last (rs : List Route) (k : ℕ) (w : Route) : Type 0 where
-  pub live : Mem w rs
+pub record LastUpTo (rs : List Route) (k : ℕ) (w : Route) : Type 0 where
+  pub member : Mem w rs
   pub low : key (w .prefix) ≤ k
   pub last : (r : Route) → Mem r rs → key (r .prefix) ≤ k → key (r .prefix) ≤ key (w .prefix)
 
@@ -57,16 +57,16 @@ module _ {rs : List Route} {a l : ℕ} (all : AllRoutes rs) (short : l ≤ 32) (
   pub nothing : ((r : Route) → Mem r rs → key (around l a) < key (r .prefix)) → (r : Route) → Mem r rs → ¬ Contains (r .prefix) a
   nothing n r m c = let k = reached r m c in let h = n r m in omega arith
 
-  module _ {w : Route} (at : Last rs (key (around l a)) w) where
+  module _ {w : Route} (at : LastUpTo rs (key (around l a)) w) where
     pub found : Contains (w .prefix) a → IsLongest rs a w
-    found c = record { live = at .live; contains = c; longest = longest }
+    found c = record { member = at .member; contains = c; longest = longest }
       where
         longest : (r : Route) → Mem r rs → Contains (r .prefix) a → r .prefix .length ≤ w .prefix .length
         longest r m d =
             by-lt (w .prefix .length) (r .prefix .length)
             (λ lt.
             let k = at .last r m (reached r m d) in
-            let low = in-range (all w (at .live) .formed) (nested (all r m .formed) (omega arith) c d (own (r .prefix))) .0 in
+            let low = in-range (all w (at .member) .formed) (nested (all r m .formed) (omega arith) c d (own (r .prefix))) .0 in
             absurd (omega arith))
             (λ le. le)
 
@@ -80,7 +80,7 @@ module _ {rs : List Route} {a l : ℕ} (all : AllRoutes rs) (short : l ≤ 32) (
     higher n r m c =
         let f = all r m .formed in
         let s = f .short in
-        let t = all w (at .live) .formed .short in
+        let t = all w (at .member) .formed .short in
         let k = at .last r m (reached r m c) in
         let low = at .low in
         let there : Contains (r .prefix) (w .prefix .address) =

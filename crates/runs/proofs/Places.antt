@@ -20,16 +20,16 @@ use Rattle.rules.specs.Rules.{routes}
 use Rattle.rules.specs.inner.Places.{Listed, prefixAt}
 use Rattle.rules.proofs.Words.{key-less}
 use Rattle.rules.proofs.Indices.{routes-index, index-routes, listed-short, keys-rise}
-use Rattle.runs.specs.inner.Steps.{around, lastOf, CountUpTo, settled, SharedIs, ClimbIs, NextIs}
-use Rattle.runs.proofs.Matches.{UpTo, Last, nothing, found, climbs, some-length}
+use Rattle.runs.specs.inner.Steps.{around, lastWord, CountUpTo, matchOrNone, SharedIs, ClimbIs, NextIs}
+use Rattle.runs.proofs.Matches.{UpTo, LastUpTo, nothing, found, climbs, some-length}
 
 -- the order of words is that of (address, length)
 key-le : (p q : Prefix) → p .length ≤ 32 → q .length ≤ 32 → keyOf p ≤ keyOf q → key p ≤ key q
 key-le p q h k l = by-lt (key q) (key p) (λ m. absurd (omega (arith, key-less q p k h .1 m))) (λ m. m)
 
 -- a fact of each route, by the index of its word
-pub each : {ws : List ℕ} {n : ℕ} (P : Route → Type 0) → Listed ws n → ((k : ℕ) → k < n → P (routeOf (getD ws k 0))) → (r : Route) → Mem r (routes ws) → P r
-each {ws} {n} P s f r m = let i = routes-index ws m in subst P (i .2) (f (i .0) (omega (arith, i .1, s .count)))
+pub each-route : {ws : List ℕ} {n : ℕ} (P : Route → Type 0) → Listed ws n → ((k : ℕ) → k < n → P (routeOf (getD ws k 0))) → (r : Route) → Mem r (routes ws) → P r
+each-route {ws} {n} P s f r m = let i = routes-index ws m in subst P (i .2) (f (i .0) (omega (arith, i .1, s .count)))
 
 -- ---- the last route up to a prefix
 
@@ -42,16 +42,16 @@ module _ {ws : List ℕ} {n i : ℕ} (a l : ℕ) (s : Listed ws n) (short : l �
       key-le (prefixAt ws k) (around l a) (listed-short s k (omega (arith, q .within))) short (omega (arith, q .below k lt))
 
   none-up-to : i ≡ 0 → (r : Route) → Mem r (routes ws) → key (around l a) < key (r .prefix)
-  none-up-to z = each (λ r. key (around l a) < key (r .prefix)) s (λ k h. past-count k (omega arith) h)
+  none-up-to z = each-route (λ r. key (around l a) < key (r .prefix)) s (λ k h. past-count k (omega arith) h)
 
-  last-up-to : 0 < i → Last (routes ws) (key (around l a)) (routeOf (lastOf ws i))
+  last-up-to : 0 < i → LastUpTo (routes ws) (key (around l a)) (routeOf (lastWord ws i))
   last-up-to some =
       let within = q .within in
       let count = s .count in
       record {
-        live = index-routes ws (i - 1) (omega arith) refl;
+        member = index-routes ws (i - 1) (omega arith) refl;
         low = in-count (i - 1) (omega arith);
-        last = each (λ r. key (r .prefix) ≤ key (around l a) → key (r .prefix) ≤ key (prefixOf (lastOf ws i))) s (λ k h up.
+        last = each-route (λ r. key (r .prefix) ≤ key (around l a) → key (r .prefix) ≤ key (prefixOf (lastWord ws i))) s (λ k h up.
             by-lt k i (λ lt. keys-rise s k (i - 1) (omega arith) (omega arith))
             (λ ge. absurd (omega (arith, past-count k ge h))));
       }
@@ -68,7 +68,7 @@ module _ {ws : List ℕ} {n i : ℕ} (a : ℕ) (s : Listed ws n) (q : CountUpTo 
       record {
         past = fits;
         within = le-refl (2 ^ 32);
-        next = each (λ r. r .prefix .address < 2 ^ 32 → r .prefix .address ≤ a) s (λ k h up. counted k (omega arith));
+        next = each-route (λ r. r .prefix .address < 2 ^ 32 → r .prefix .address ≤ a) s (λ k h up. counted k (omega arith));
       }
 
   pub next-some : {r : ℕ} → i < n → prefixAt ws i .address ≤ 2 ^ 32 → r ≡ prefixAt ws i .address → NextIs (routes ws) a r
@@ -76,7 +76,7 @@ module _ {ws : List ℕ} {n i : ℕ} (a : ℕ) (s : Listed ws n) (q : CountUpTo 
       record {
         past = omega (arith, listed-short s i some, past-count a 32 s (le-refl 32) q i (le-refl i) some);
         within = omega arith;
-        next = each (λ t. t .prefix .address < r → t .prefix .address ≤ a) s (λ k h low.
+        next = each-route (λ t. t .prefix .address < r → t .prefix .address ≤ a) s (λ k h low.
             by-lt k i (counted k) (λ ge. absurd (later k ge h low)));
       }
     where
@@ -86,9 +86,9 @@ module _ {ws : List ℕ} {n i : ℕ} (a : ℕ) (s : Listed ws n) (q : CountUpTo 
 
 -- ---- the climb
 
-pub settled? : (ws : List ℕ) (a i : ℕ) → Decides ((i ≡ 0) ⊎ Contains (prefixOf (lastOf ws i)) a) (settled ws a i)
-unfolding settled
-settled? ws a i = or? (eqb? i 0) (contains? (prefixOf (lastOf ws i)) a)
+pub matchOrNone? : (ws : List ℕ) (a i : ℕ) → Decides ((i ≡ 0) ⊎ Contains (prefixOf (lastWord ws i)) a) (matchOrNone ws a i)
+unfolding matchOrNone
+matchOrNone? ws a i = or? (eqb? i 0) (contains? (prefixOf (lastWord ws i)) a)
 
 -- on the way: i words are up to the prefix of length l around a, and no route that contains a is longer
 pub record Climbing (ws : List ℕ) (n a l i : ℕ) : Type 0 where
@@ -100,26 +100,26 @@ pub climb-start : {ws : List ℕ} {n a i : ℕ} → Listed ws n → CountUpTo ws
 climb-start s q = record { short = le-refl 32; upTo = λ r m c. s .all r m .formed .short; count = q }
 
 module _ {ws : List ℕ} {n a l i : ℕ} (s : Listed ws n) (on : Climbing ws n a l i) where
-  pub climb-done : settled ws a i ≡ true → ClimbIs ws n a i
+  pub climb-done : matchOrNone ws a i ≡ true → ClimbIs ws n a i
   climb-done t =
       record {
         within = on .count .within;
         none = λ z. nothing (s .all) (on .short) (on .upTo) (none-up-to a l s (on .short) (on .count) z);
         found = λ h. found (s .all) (on .short) (on .upTo) (last-up-to a l s (on .short) (on .count) h)
-            (⊎-elim (λ z. absurd (omega arith)) (λ c. c) (says (settled? ws a i) t));
+            (⊎-elim (λ z. absurd (omega arith)) (λ c. c) (says (matchOrNone? ws a i) t));
       }
 
-  module _ (t : settled ws a i ≡ false) where
+  module _ (t : matchOrNone ws a i ≡ false) where
     pub climb-some : 0 < i
-    climb-some = by-lt 0 i (λ h. h) (λ h. absurd (denies (settled? ws a i) t (inl (omega arith))))
+    climb-some = by-lt 0 i (λ h. h) (λ h. absurd (denies (matchOrNone? ws a i) t (inl (omega arith))))
 
-    apart : ¬ Contains (prefixOf (lastOf ws i)) a
-    apart c = denies (settled? ws a i) t (inr c)
+    apart : ¬ Contains (prefixOf (lastWord ws i)) a
+    apart c = denies (matchOrNone? ws a i) t (inr c)
 
     pub climb-length : a < 2 ^ 32 → 0 < l
     climb-length fits = some-length (s .all) (on .short) (on .upTo) (last-up-to a l s (on .short) (on .count) climb-some) fits apart
 
-    pub climb-more : {m j : ℕ} → SharedIs a (prefixOf (lastOf ws i) .address) l m → CountUpTo ws n m a j → Climbing ws n a m j
+    pub climb-more : {m j : ℕ} → SharedIs a (prefixOf (lastWord ws i) .address) l m → CountUpTo ws n m a j → Climbing ws n a m j
     climb-more d q =
         record {
           short = omega (arith, d .below, on .short);

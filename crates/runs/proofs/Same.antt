@@ -27,6 +27,6 @@ module _ {rs : List Route} {a : ℕ} (all : AllRoutes rs) (b : ℕ) (from : a �
   -- the longest match of a ends past b
   pub same-longest : {r : Route} → IsLongest rs a r → b < r .prefix .address + span (r .prefix .length) → best rs b ≡ best rs a
   same-longest {r} l h =
-      let f = all r (l .live) .formed in
+      let f = all r (l .member) .formed in
       let end = by-range f (le-trans (in-range f (l .contains) .0) from) h in
       same (λ s m c. nested f (l .longest s m c) c (l .contains) end)

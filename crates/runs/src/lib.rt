@@ -7,7 +7,7 @@ ghost use Rattle.rules.specs.Words.{routeOf};
 ghost use Rattle.rules.specs.Rules.{routes};
 ghost use Rattle.rules.specs.inner.Places.{Listed};
 ghost use Rattle.runs.specs.inner.Kept.{RunIs};
-ghost use Rattle.runs.specs.inner.Steps.{CountUpTo, settled, SharedIs, ClimbIs, NextIs, LowerIs, MatchRunIs};
+ghost use Rattle.runs.specs.inner.Steps.{CountUpTo, matchOrNone, SharedIs, ClimbIs, NextIs, LowerIs, MatchRunIs};
 use cells::cell::Cell;
 use prefix::Prefix;
 use prefix::span_of;
@@ -28,16 +28,16 @@ pub struct Run {
 }
 
 // How many of the live words are up to the prefix of this length around the address.
-fn up_to(rules: &[u64], live: usize, address: u32, length: u32) -> usize
-    requires { ⌜ Listed (now rules) live ⌝ }
+fn up_to(rules: &[u64], used: usize, address: u32, length: u32) -> usize
+    requires { ⌜ Listed (now rules) used ⌝ }
     requires { ⌜ length ≤ 32 ⌝ }
-    ensures { λ r. ⌜ CountUpTo (now (rules .entry)) live length address r ⌝ }
+    ensures { λ r. ⌜ CountUpTo (now (rules .entry)) used length address r ⌝ }
 {
     let around = Prefix {
         address: prefix::cleared(address, length),
         length,
     };
-    rules::list::position(rules, live, Rule::key_of(around) + 1)
+    rules::list::position(rules, used, Rule::key_of(around) + 1)
 }
 
 // How many leading bits the two addresses share, of fewer than `limit`.
@@ -53,10 +53,10 @@ fn shared(address: u32, other: u32, limit: u32) -> u32
 }
 
 // Whether no word is left, or the last of the first `i` contains the address.
-fn is_settled(rules: &[u64], live: usize, address: u32, i: usize) -> bool
-    requires { ⌜ Listed (now rules) live ⌝ }
-    requires { ⌜ i ≤ live ⌝ }
-    ensures { λ r. ⌜ r ≡ settled (now (rules .entry)) address i ⌝ }
+fn is_match_or_none(rules: &[u64], used: usize, address: u32, i: usize) -> bool
+    requires { ⌜ Listed (now rules) used ⌝ }
+    requires { ⌜ i ≤ used ⌝ }
+    ensures { λ r. ⌜ r ≡ matchOrNone (now (rules .entry)) address i ⌝ }
 {
     if i == 0 {
         return true;
@@ -68,27 +68,27 @@ fn is_settled(rules: &[u64], live: usize, address: u32, i: usize) -> bool
 
 // How many of the live words are up to the longest match of the address, 0 if there is none; `first` are up to the address itself. A last
 // word that does not contain the address leaves only the shorter prefixes that contain both it and the address.
-fn climb(rules: &[u64], live: usize, address: u32, first: usize) -> usize
-    requires { ⌜ Listed (now rules) live ⌝ }
-    requires { ⌜ CountUpTo (now rules) live 32 address first ⌝ }
-    ensures { λ r. ⌜ ClimbIs (now (rules .entry)) live address r ⌝ }
+fn climb(rules: &[u64], used: usize, address: u32, first: usize) -> usize
+    requires { ⌜ Listed (now rules) used ⌝ }
+    requires { ⌜ CountUpTo (now rules) used 32 address first ⌝ }
+    ensures { λ r. ⌜ ClimbIs (now (rules .entry)) used address r ⌝ }
 {
     let mut length = 32;
     let mut i = first;
-    while !is_settled(rules, live, address, i) {
+    while !is_match_or_none(rules, used, address, i) {
         length = shared(address, Rule::address(rules[i - 1]), length);
-        i = up_to(rules, live, address, length);
+        i = up_to(rules, used, address, length);
     }
     i
 }
 
 // Where the next rule after the address starts, or the number of addresses; `first` of the live words are up to the address.
-fn next(rules: &[u64], live: usize, address: u32, first: usize) -> u64
-    requires { ⌜ Listed (now rules) live ⌝ }
-    requires { ⌜ CountUpTo (now rules) live 32 address first ⌝ }
+fn next(rules: &[u64], used: usize, address: u32, first: usize) -> u64
+    requires { ⌜ Listed (now rules) used ⌝ }
+    requires { ⌜ CountUpTo (now rules) used 32 address first ⌝ }
     ensures { λ r. ⌜ NextIs (routes (now (rules .entry))) address r ⌝ }
 {
-    if first == live {
+    if first == used {
         return ADDRESSES;
     }
     Rule::address(rules[first]) as u64
@@ -119,14 +119,14 @@ fn run_of(word: u64, limit: u64, at: usize) -> Run
     }
 }
 
-// The longest match of an address among the first `live` words, and its run.
-pub fn longest(rules: &[u64], live: usize, address: u32) -> Run
-    requires { ⌜ Listed (now rules) live ⌝ }
-    ensures { λ r. ⌜ RunIs (now (rules .entry)) live address r ⌝ }
+// The longest match of an address among the first `used` words, and its run.
+pub fn longest(rules: &[u64], used: usize, address: u32) -> Run
+    requires { ⌜ Listed (now rules) used ⌝ }
+    ensures { λ r. ⌜ RunIs (now (rules .entry)) used address r ⌝ }
 {
-    let first = up_to(rules, live, address, 32);
-    let limit = next(rules, live, address, first);
-    let i = climb(rules, live, address, first);
+    let first = up_to(rules, used, address, 32);
+    let limit = next(rules, used, address, first);
+    let i = climb(rules, used, address, first);
     if i == 0 {
         return Run {
             cell: Cell::EMPTY,

@@ -9,13 +9,14 @@ use lib.Dec.{T}
 use lib.ListN.{getD}
 use lib.Ieee.{Float, lt, eq}
 use borrow.Author.Tests.{le-ltb, ltb-false}
+use Rattle.prefix.specs.Routes.{lastHop}
 use Rattle.costs.specs.Lines.{rateOf}
 use Rattle.costs.specs.Ranks.{Sound, classOf, ahead, before}
 use Rattle.sheet.specs.Sheet.{Ranked, SheetIs}
 use Rattle.ground.proofs.Cases.{by-lt, by-eq, by-cmp}
 use Rattle.costs.proofs.Rates.{rates-tie, truly-above}
 use Rattle.sheet.proofs.Counts.{hop-within}
-use Rattle.costs.proofs.Costs.{class-rate, class-cents, class-none, traffic, ahead-lower, by-rates, by-cents, word-is, in-order, before-order}
+use Rattle.costs.proofs.Costs.{class-rate, class-cents, class-none, traffic, ahead-lower, by-rates, by-cents, hop-word-is, in-order, before-order}
 use Rattle.sheet.proofs.Unique.{ascends, one-ranking}
 use Rattle.sheet.proofs.Refusing.{sound}
 
@@ -56,7 +57,7 @@ module _ (os cs : List ℕ) (l : Sound os cs) (a b : ℕ) (p : 0 < a) (q : 0 < b
   cb = getD cs b 0
 
   words-order : (ahead ob cb oa ca ≡ false) × (ahead oa ca ob cb ≡ false → a < b)
-  words-order = rw (word-is os a p, word-is cs a p, word-is os b q, word-is cs b q) at (in-order os cs l a b h)
+  words-order = rw (hop-word-is os a p, hop-word-is cs a p, hop-word-is os b q, hop-word-is cs b q) at (in-order os cs l a b h)
 
   class-le : classOf oa ca ≤ classOf ob cb
   class-le = by-lt (classOf ob cb) (classOf oa ca) (λ g. absurd (true≢false (sym (ahead-lower ob cb oa ca g) ∙ words-order .0))) (λ le. le)
@@ -99,15 +100,15 @@ answered {os} {cs} {hops} s = (sound os cs hops (sym (s .code-is)), s .filled re
 
 module _ {os cs hops : List ℕ} (l : Sound os cs) (r : Ranked os cs hops) where
   -- The dearest first: of two places of the sheet the earlier one holds the dearer hop.
-  pub dearest-first : (i j : ℕ) → i < j → j < 32767 → StandsBefore os cs (getD hops i 0) (getD hops j 0)
+  pub dearest-first : (i j : ℕ) → i < j → j < lastHop → StandsBefore os cs (getD hops i 0) (getD hops j 0)
   dearest-first i j m n =
       stands-before os cs l (getD hops i 0) (getD hops j 0) (hop-within (r .all) i (omega arith) .0) (hop-within (r .all) j n .0)
-      (ascends (before-order os cs l) hops 32767 (r .all .long) (r .order) i j m (omega (arith, r .all .long)))
+      (ascends (before-order os cs l) hops lastHop (r .all .long) (r .order) i j m (omega (arith, r .all .long)))
 
   abbrev classAt : ℕ → ℕ
   classAt i = classOf (getD os (getD hops i 0) 0) (getD cs (getD hops i 0) 0)
 
-  lower-first : (i j : ℕ) → i < 32767 → j < 32767 → classAt j < classAt i → j < i
+  lower-first : (i j : ℕ) → i < lastHop → j < lastHop → classAt j < classAt i → j < i
   lower-first i j m n g =
       by-cmp i j
       (λ w. absurd (omega (arith, dearest-first i j w n .classes)))
@@ -115,14 +116,14 @@ module _ {os cs hops : List ℕ} (l : Sound os cs) (r : Ranked os cs hops) where
       (λ w. w)
 
   -- Cents without traffic stand before every line with traffic.
-  pub no-traffic-first : (i j : ℕ) → i < 32767 → j < 32767 → 0 < getD os (getD hops i 0) 0 → getD os (getD hops j 0) 0 ≡ 0 → 0 < getD cs (getD hops j 0) 0 → j < i
+  pub no-traffic-first : (i j : ℕ) → i < lastHop → j < lastHop → 0 < getD os (getD hops i 0) 0 → getD os (getD hops j 0) 0 ≡ 0 → 0 < getD cs (getD hops j 0) 0 → j < i
   no-traffic-first i j m n x y z =
       let e : classAt i ≡ 1 = class-rate (getD os (getD hops i 0) 0) (getD cs (getD hops i 0) 0) (λ u. omega arith) in
       let f : classAt j ≡ 0 = class-cents (getD os (getD hops j 0) 0) (getD cs (getD hops j 0) 0) y (λ u. omega arith) in
       lower-first i j m n (omega arith)
 
   -- A line with neither octets nor cents stands after every line that has either.
-  pub nothing-last : (i j : ℕ) → i < 32767 → j < 32767 → (getD os (getD hops i 0) 0 ≡ 0 → getD cs (getD hops i 0) 0 ≡ 0 → ⊥)
+  pub nothing-last : (i j : ℕ) → i < lastHop → j < lastHop → (getD os (getD hops i 0) 0 ≡ 0 → getD cs (getD hops i 0) 0 ≡ 0 → ⊥)
       → getD os (getD hops j 0) 0 ≡ 0 → getD cs (getD hops j 0) 0 ≡ 0 → i < j
   nothing-last i j m n x y z =
       let e : classAt j ≡ 2 = class-none (getD os (getD hops j 0) 0) (getD cs (getD hops j 0) 0) y z in

@@ -7,6 +7,7 @@ use native.Mathlib.Omega.{arith}
 use lib.Dec.{eqb, lit<}
 use lib.ListN.{length, getD, drop, List·getD-eq-default}
 use lib.Seq.{getD-drop}
+use Rattle.prefix.specs.Routes.{lastHop}
 use Rattle.octets.specs.Words.{wordCount, most}
 use Rattle.ground.proofs.Cases.{by-eq}
 use Rattle.ground.proofs.Tests.{Decides, holds, leb?, eqb?, and?, iff?, cond-on, cond-off, by-test}
@@ -49,7 +50,7 @@ within? from words =
 -- ---- the tests, and the ways out
 
 abbrev Sizes : List ℕ → List ℕ → List ℕ → Type 0
-Sizes os cs hops = ((length os ≡ wordCount) × (length cs ≡ wordCount)) × (length hops ≡ 32767)
+Sizes os cs hops = ((length os ≡ wordCount) × (length cs ≡ wordCount)) × (length hops ≡ lastHop)
 
 -- past all tests
 pub record Tested (os cs hops : List ℕ) : Type 0 where
@@ -58,8 +59,8 @@ pub record Tested (os cs hops : List ℕ) : Type 0 where
   pub cents : Small 1 cs
 
 module _ (os cs hops : List ℕ) where
-  sizes? : Decides (Sizes os cs hops) (eqb (length os) wordCount && eqb (length cs) wordCount && eqb (length hops) 32767)
-  sizes? = and? (and? (eqb? (length os) wordCount) (eqb? (length cs) wordCount)) (eqb? (length hops) 32767)
+  sizes? : Decides (Sizes os cs hops) (eqb (length os) wordCount && eqb (length cs) wordCount && eqb (length hops) lastHop)
+  sizes? = and? (and? (eqb? (length os) wordCount) (eqb? (length cs) wordCount)) (eqb? (length hops) lastHop)
 
   code-1 : (Sizes os cs hops → ⊥) → sheetCode os cs hops ≡ 1
   unfolding sheetCode

@@ -64,7 +64,7 @@ used-words (r ∷ rs) k all =
     ∙ omega (arith, differs-other (wordOf r) 0 (some-route r (all r (here refl))), used-words rs k (λ s i. all s (there i)))
 
 -- after a history, as many rule words are not 0 as prefixes are live
-pub live-counted : (t : Prefix) (m : Lent) → IsLent m t → (h : History) → used (memory t m h .rules) ≡ length (live t m h)
+pub live-counted : (t : Prefix) (m : Lent) → IsLent t m → (h : History) → used (memory t m h .rules) ≡ length (live t m h)
 unfolding wordsOf
 live-counted t m l h =
     let I = inv-history t m l h in

@@ -31,7 +31,7 @@ module _ (t : Prefix) (m : Lent) where
   unfolding linesOf memory report
   line-is-report h u us = refl
 
-  module _ (l : IsLent m t) (us : List Update) where
+  module _ (l : IsLent t m) (us : List Update) where
     pub stream-demand-2 : (a : ℕ) → Contains t a
         → IsAnswer (live t m (goesOn start us)) a (lookUp (lentAfter t (clear t m .lent) us .tables .first) (lentAfter t (clear t m .lent) us .tables .long) t a)
     stream-demand-2 a c =

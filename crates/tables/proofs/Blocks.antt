@@ -21,7 +21,7 @@ use Rattle.tables.specs.Cellwise.{cellAddress}
 use Rattle.tables.specs.inner.Ready.{Points, segmentAt, Owns}
 use Rattle.tables.specs.inner.Ranges.{Within, RunChanged, BlocksReady, BlocksChanged}
 use Rattle.tables.proofs.Ranges.{inRange?, run-cong}
-use Rattle.tables.proofs.Segments.{Direct, Open, Among, directAmong?, openAmong?, address-owned}
+use Rattle.tables.proofs.Segments.{DirectWhere, Open, Among, directAmong?, openAmong?, address-owned}
 
 -- of one block
 open-one : (T : Tables) (b i : ℕ) → Open (Among b (b + 1)) T i → getD (T .first) b 0 ≡ pointTo (i / blockSize)
@@ -119,7 +119,7 @@ module _ {t : Prefix} {f : ℕ → ℕ → ℕ} {T : Tables} {first long : List 
     abbrev U : Tables
     U = tablesOf first long (T .owners)
 
-    apart₁ : (b : ℕ) → Direct (Among from mid) (T .first) b → Direct (Among mid to) first b → ⊥
+    apart₁ : (b : ℕ) → DirectWhere (Among from mid) (T .first) b → DirectWhere (Among mid to) first b → ⊥
     apart₁ b d e = omega arith
 
     apart₂ : (i : ℕ) → Open (Among from mid) T i → Open (Among mid to) U i → ⊥

@@ -53,7 +53,7 @@ module _ {t p : Prefix} {s : ℕ} {T : Tables} (h : Openable t p s T) {b : ℕ} 
           });
     };
     longer = h .longer;
-    opened = rw (sym at-block) (omega (arith, points));
+    has-segment = rw (sym at-block) (omega (arith, points));
   }
 
   -- the prefix's run in the segment

@@ -74,11 +74,11 @@ module _ {t p : Prefix} {T : Tables} (ready : Ready t p T) where
 -- ---- a longer prefix, whose block points: one run in its segment
 
 pub closable : {t p : Prefix} {T : Tables} → Repaintable t p T → width < p .length → Closable t p T
-closable h long = record { ready = h .ready; longer = long; opened = h .opened long }
+closable h long = record { ready = h .ready; longer = long; has-segment = h .has-segment long }
 
 module _ {t p : Prefix} {T : Tables} (h : Closable t p T) {b : ℕ} (at : b ≡ blockOf t (p .address)) where
   pub points : Points T b
-  points = rw at (h .opened)
+  points = rw at (h .has-segment)
 
   pub owns : Owns T b (segmentAt T b)
   owns = h .ready .owned b (omega arith) (omega (arith, spans.some-block p)) points

@@ -22,12 +22,12 @@ use Rattle.tables.proofs.Ranges.{inRange?}
 -- ---- direct cells
 
 -- P holds of the block, and its first cell is no pointer
-pub record Direct (P : ℕ → Type 0) (first : List ℕ) (block : ℕ) : Type 0 where
+pub record DirectWhere (P : ℕ → Type 0) (first : List ℕ) (block : ℕ) : Type 0 where
   pub meets : P block
   pub direct : getD first block 0 < pointerBit
 
 direct? : {P : ℕ → Type 0} {s : ℕ → Bool} → ((b : ℕ) → Decides (P b) (s b)) → (first : List ℕ) (block : ℕ)
-    → Decides (Direct P first block) (s block && not (isPointer (getD first block 0)))
+    → Decides (DirectWhere P first block) (s block && not (isPointer (getD first block 0)))
 direct? d first block =
     iff? (and? (d block) (not? (leb? pointerBit (getD first block 0))))
     (λ h. record { meets = h .0; direct = below (h .1) })
@@ -63,7 +63,7 @@ module _ {P : ℕ → Type 0} {test : ℕ → Bool} (d : (b : ℕ) → Decides (
 abbrev pub Among : ℕ → ℕ → ℕ → Type 0
 Among from to block = (from ≤ block) × (block < to)
 
-pub directAmong? : (from to : ℕ) (first : List ℕ) (block : ℕ) → Decides (Direct (Among from to) first block) (directAmong from to first block)
+pub directAmong? : (from to : ℕ) (first : List ℕ) (block : ℕ) → Decides (DirectWhere (Among from to) first block) (directAmong from to first block)
 unfolding directAmong
 directAmong? from to first block = direct? (inRange? from to) first block
 
@@ -73,7 +73,7 @@ openAmong? from to tables i = open? (inRange? from to) tables i (openAmongBy fro
 
 -- ---- in a prefix
 
-pub directIn? : (t p : Prefix) (first : List ℕ) (block : ℕ) → Decides (Direct (λ b. Contains p (blockStart t b)) first block) (directIn t p first block)
+pub directIn? : (t p : Prefix) (first : List ℕ) (block : ℕ) → Decides (DirectWhere (λ b. Contains p (blockStart t b)) first block) (directIn t p first block)
 unfolding directIn
 directIn? t p first block = direct? (λ b. contains? p (blockStart t b)) first block
 

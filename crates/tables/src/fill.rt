@@ -72,7 +72,7 @@ pub fn open_and_paint(
     let cell = first[block];
     let painted = paint::paint_cell(cell, new, prefix.length);
     let at = place::segment_start(segment);
-    let range = place::run_of(segment, prefix);
+    let range = place::prefix_cells(segment, prefix);
     let changed = fill_segment(long, at, range.from, range.to, painted, cell);
     first[block] = Cell::point_to(segment);
     owners[segment] = block as u32 + 1;

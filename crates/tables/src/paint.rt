@@ -120,6 +120,6 @@ pub fn paint(
         let to = block + blocks.count;
         return paint_blocks(first, long, owners, territory, block, to, new, length);
     }
-    let range = place::run_of(Cell::segment(first[block]), prefix);
+    let range = place::prefix_cells(Cell::segment(first[block]), prefix);
     paint_run(long, range.from, range.to, new, length)
 }

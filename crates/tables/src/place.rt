@@ -1,13 +1,13 @@
 // Where cells stand in the long table: a segment's, and there those of a prefix longer than 24.
 ghost use mathlib.Core.Path.{_≡_};
 ghost use Prim.Native.Nat.{_*_, _<_, _≤_};
-ghost use Rattle.prefix.specs.Prefixes.{span};
 ghost use Rattle.prefix.specs.Geometry.{width, blockSize};
 ghost use Rattle.cells.specs.Cells.{pointerBit, segmentOf};
 ghost use Rattle.tables.specs.inner.Ranges.{SegmentRun, PrefixRun};
 use cells::cell::Cell;
 use prefix::Prefix;
 use prefix::geometry::Block;
+use prefix::span_of;
 
 // The cells from..to.
 pub struct Range {
@@ -33,21 +33,13 @@ pub fn segment_cells(pointer: u32) -> Range
     Range { from, to }
 }
 
-// How many addresses a prefix has that lies inside a block.
-fn addresses_of(length: u32) -> usize
-    requires { ⌜ (width < length) × (length ≤ 32) ⌝ }
-    ensures { λ r. ⌜ r ≡ span length ⌝ }
-{
-    1usize << ((32 - length) as usize)
-}
-
 // The cells of a prefix longer than 24 in a segment.
-pub fn run_of(segment: usize, prefix: Prefix) -> Range
+pub fn prefix_cells(segment: usize, prefix: Prefix) -> Range
     requires { ⌜ segment < pointerBit ⌝ }
     requires { ⌜ (width < prefix .length) × (prefix .length ≤ 32) ⌝ }
     ensures { λ r. ⌜ PrefixRun prefix segment (r .from) (r .to) ⌝ }
 {
     let from = segment_start(segment) + (prefix.address % Block::SIZE) as usize;
-    let to = from + addresses_of(prefix.length);
+    let to = from + span_of(prefix.length) as usize;
     Range { from, to }
 }

@@ -74,14 +74,18 @@ module _ {l : ℕ} {from to at : ℕ} {cells : List ℕ} (s : Skipped l from to 
   pub skipped-run : RunChanged (λ k. unpaintCell l rs (address k)) from at cells cells 0
   skipped-run = run-stay _ from at cells (λ k low high. unpaint-off l rs (address k) (getD cells k 0) (says (stays? l (getD cells k 0)) (s .stay k low high)))
 
+-- they are passed over from this index on, if that is where the search started
+pub skipped-from : {l from i to at : ℕ} {cells : List ℕ} → Skipped l from to cells at → from ≡ i → Skipped l i to cells at
+skipped-from {l} {to = to} {at = at} {cells} s e = subst (λ (k : ℕ). Skipped l k to cells at) e s
+
 -- all take the cell of a run that holds for their addresses
-pub run-taken : (l : ℕ) {ws : List ℕ} {live a from to r : ℕ} {run : Run} {cells after : List ℕ} (address : ℕ → ℕ) → Kept ws live a run
-    → ((k : ℕ) → from ≤ k → k < to → (a ≤ address k) × (address k < run .end)) → RunChanged (λ k. replaced l (run .cell)) from to cells after r
-    → RunChanged (λ k. unpaintCell l (routes ws) (address k)) from to cells after r
-run-taken l {ws} address kept reached c =
+pub run-taken : (l : ℕ) {ws : List ℕ} {used a new from to r : ℕ} {run : Run} {cells after : List ℕ} (address : ℕ → ℕ) → Kept ws used a run
+    → ((k : ℕ) → from ≤ k → k < to → (a ≤ address k) × (address k < run .end)) → RunChanged (λ k. replaced l new) from to cells after r
+    → new ≡ run .cell → RunChanged (λ k. unpaintCell l (routes ws) (address k)) from to cells after r
+run-taken l {ws} address kept reached c is =
     run-cong c (λ k. unpaintCell l (routes ws) (address k)) (λ k x low high.
     let h = reached k low high in
-    ap (λ (v : ℕ). replaced l v x) (kept .same (address k) (h .0) (h .1)) ∙ unpaint-replaced l (routes ws) (address k) x)
+    ap (λ (v : ℕ). replaced l v x) (is ∙ kept .same (address k) (h .0) (h .1)) ∙ unpaint-replaced l (routes ws) (address k) x)
 
 -- a loop over the cells at i goes on by a part of them, and over some that stay
 module _ {g : ℕ → ℕ → ℕ} {from to changed i stop : ℕ} {cells₀ cells : List ℕ} (inv : Reached g from to cells₀ cells changed i)
@@ -142,18 +146,18 @@ module _ {l from to : ℕ} {cells : List ℕ} where
   closed-more s h direct t = record { skipped = skip-more (s .skipped) h t; closed = each-more (λ k. getD cells k 0 < pointerBit) (s .closed) direct }
 
 -- the first cells from..i hold so many pointers, as far as one is told from none
-pub record Counted (from to : ℕ) (first : List ℕ) (pointers i : ℕ) : Type 0 where
+pub record PointersCounted (from to : ℕ) (first : List ℕ) (pointers i : ℕ) : Type 0 where
   pub low : from ≤ i
   pub high : i ≤ to
   pub few : pointers ≤ i - from
   pub none : pointers ≡ 0 → Closed from i first
 
 module _ {from to : ℕ} {first : List ℕ} where
-  pub count-start : from ≤ to → Counted from to first 0 from
+  pub count-start : from ≤ to → PointersCounted from to first 0 from
   count-start h = record { low = le-refl from; high = h; few = omega arith; none = λ z k low high. absurd (omega arith) }
 
-  pub count-more : {pointers i : ℕ} → Counted from to first pointers i → i < to → getD first i 0 < 2 ^ 32
-      → Counted from to first (pointers + getD first i 0 / pointerBit) (i + 1)
+  pub count-more : {pointers i : ℕ} → PointersCounted from to first pointers i → i < to → getD first i 0 < 2 ^ 32
+      → PointersCounted from to first (pointers + getD first i 0 / pointerBit) (i + 1)
   count-more s h fits = record {
     low = omega (arith, s .low);
     high = omega arith;

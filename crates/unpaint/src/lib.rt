@@ -91,14 +91,14 @@ fn skip(cells: &[u32], from: usize, to: usize, length: u32) -> usize
 }
 
 // The run of the address: the one that is kept, or past its end the next.
-fn run_at(rules: &[u64], live: usize, address: u32, run: Run) -> Run
-    requires { ⌜ Asking (now rules) live address run ⌝ }
-    ensures { λ r. ⌜ Found (now (rules .entry)) live address r ⌝ }
+fn run_at(rules: &[u64], used: usize, address: u32, run: Run) -> Run
+    requires { ⌜ Asking (now rules) used address run ⌝ }
+    ensures { λ r. ⌜ Found (now (rules .entry)) used address r ⌝ }
 {
     if (address as u64) < run.end {
         return run;
     }
-    runs::onward::asked(rules, live, address, run.cell, run.until, run.at)
+    runs::onward::asked(rules, used, address, run.cell, run.until, run.at)
 }
 
 // How many cells one pass changes: the lower of two numbers, neither of which is 0.
@@ -119,14 +119,14 @@ fn unpaint_run(
     to: usize,
     start: u32,
     rules: &[u64],
-    live: usize,
+    used: usize,
     length: u32,
     run: Run,
 ) -> Tally
     requires { ⌜ Within from to (now cells) ⌝ }
     requires { ⌜ start + (to - from) ≤ 2 ^ 32 ⌝ }
-    requires { ⌜ Asking (now rules) live start run ⌝ }
-    ensures { λ r. ⌜ RunUnpainted length (now (rules .entry)) live start from to (now (cells .entry)) (now (cells .exit))
+    requires { ⌜ Asking (now rules) used start run ⌝ }
+    ensures { λ r. ⌜ RunUnpainted length (now (rules .entry)) used start from to (now (cells .entry)) (now (cells .exit))
         (r .changed) (r .run) ⌝ }
 {
     let mut changed: u32 = 0;
@@ -134,7 +134,7 @@ fn unpaint_run(
     let mut i = skip(cells, from, to, length);
     while i < to {
         let address = start + (i - from) as u32;
-        kept = run_at(rules, live, address, kept);
+        kept = run_at(rules, used, address, kept);
         let stop = i + reach(to - i, kept.end - address as u64);
         changed += replace_run(cells, i, stop, kept.cell, length);
         i = skip(cells, stop, to, length);
@@ -210,7 +210,7 @@ fn unpaint_some(
     long: &mut [u32],
     owners: &[u32],
     rules: &[u64],
-    live: usize,
+    used: usize,
     territory: Prefix,
     block: usize,
     to: usize,
@@ -219,15 +219,15 @@ fn unpaint_some(
 ) -> Part
     requires { ⌜ BlocksReady territory block to (tables first long owners) ⌝ }
     requires { ⌜ block < to ⌝ }
-    requires { ⌜ Asking (now rules) live (blockStart territory block) run ⌝ }
-    ensures { λ r. ⌜ SomeUnpainted territory length (now (rules .entry)) live block to (tablesIn first long owners)
+    requires { ⌜ Asking (now rules) used (blockStart territory block) run ⌝ }
+    ensures { λ r. ⌜ SomeUnpainted territory length (now (rules .entry)) used block to (tablesIn first long owners)
         (now (first .exit)) (now (long .exit)) (r .changed) (r .run) (r .to) ⌝ }
 {
     let start = block_start(territory, block);
     let cell = first[block];
     if Cell::is_pointer(cell) {
         let range = place::segment_cells(cell);
-        let tally = unpaint_run(long, range.from, range.to, start, rules, live, length, run);
+        let tally = unpaint_run(long, range.from, range.to, start, rules, used, length, run);
         let kept = tally.run;
         return Part {
             changed: tally.changed,
@@ -235,7 +235,7 @@ fn unpaint_some(
             to: block + 1,
         };
     }
-    let kept = run_at(rules, live, start, run);
+    let kept = run_at(rules, used, start, run);
     let stop = piece(first, block, to, kept.end - start as u64);
     Part {
         changed: replace_run(first, block, stop, kept.cell, length),
@@ -250,7 +250,7 @@ fn unpaint_blocks(
     long: &mut [u32],
     owners: &[u32],
     rules: &[u64],
-    live: usize,
+    used: usize,
     territory: Prefix,
     from: usize,
     to: usize,
@@ -258,8 +258,8 @@ fn unpaint_blocks(
     run: Run,
 ) -> Tally
     requires { ⌜ BlocksReady territory from to (tables first long owners) ⌝ }
-    requires { ⌜ Asking (now rules) live (blockStart territory from) run ⌝ }
-    ensures { λ r. ⌜ BlocksUnpainted territory length (now (rules .entry)) live from to (tablesIn first long owners)
+    requires { ⌜ Asking (now rules) used (blockStart territory from) run ⌝ }
+    ensures { λ r. ⌜ BlocksUnpainted territory length (now (rules .entry)) used from to (tablesIn first long owners)
         (now (first .exit)) (now (long .exit)) (r .changed) (r .run) ⌝ }
 {
     let mut changed: u32 = 0;
@@ -271,7 +271,7 @@ fn unpaint_blocks(
             long,
             owners,
             rules,
-            live,
+            used,
             territory,
             block,
             to,
@@ -292,14 +292,14 @@ pub fn unpaint(
     long: &mut [u32],
     owners: &[u32],
     rules: &[u64],
-    live: usize,
+    used: usize,
     territory: Prefix,
     prefix: Prefix,
     blocks: Blocks,
 ) -> u32
     requires { ⌜ Repaintable territory prefix (tables first long owners) ⌝ }
     requires { ⌜ blocks ≡ touched territory prefix ⌝ }
-    requires { ⌜ Listed (now rules) live ⌝ }
+    requires { ⌜ Listed (now rules) used ⌝ }
     ensures { λ r. ⌜ left r (tablesOut first long owners)
         ≡ leaves (repainted territory prefix (unpaintCell (prefix .length) (routes (now (rules .entry)))))
         (tablesIn first long owners) ⌝ }
@@ -307,7 +307,7 @@ pub fn unpaint(
     let length = prefix.length;
     let block = blocks.from;
     // The loops only go on from this run, so that the search stays a call in them.
-    let run = runs::longest(rules, live, prefix.address);
+    let run = runs::longest(rules, used, prefix.address);
     if length <= Block::WIDTH {
         let to = block + blocks.count;
         let tally = unpaint_blocks(
@@ -315,7 +315,7 @@ pub fn unpaint(
             long,
             owners,
             rules,
-            live,
+            used,
             territory,
             block,
             to,
@@ -324,14 +324,14 @@ pub fn unpaint(
         );
         return tally.changed;
     }
-    let range = place::run_of(Cell::segment(first[block]), prefix);
+    let range = place::prefix_cells(Cell::segment(first[block]), prefix);
     let tally = unpaint_run(
         long,
         range.from,
         range.to,
         prefix.address,
         rules,
-        live,
+        used,
         length,
         run,
     );

@@ -60,8 +60,8 @@ module _ {t : Prefix} {m : Lent} {r : Route} {k : Checked} where
         listed = K .listed z;
         place = K .place z;
         room = λ out.
-            let full = denies (eqb? (k .live) (length (m .rules))) (all-live (m .rules) (k .live) (K .listed z) ∙ room .word (sym (K .place z .live) ∙ out)) in
-            by-lt (k .live) (length (m .rules)) (λ h. h) (λ h. absurd (full (omega (arith, listed-within (K .listed z)))));
+            let full = denies (eqb? (k .used) (length (m .rules))) (all-live (m .rules) (k .used) (K .listed z) ∙ room .word (sym (K .place z .is-live) ∙ out)) in
+            by-lt (k .used) (length (m .rules)) (λ h. h) (λ h. absurd (full (omega (arith, listed-within (K .listed z)))));
       }
 
   -- re-home: the prefix is live, and so it needs no segment
@@ -81,7 +81,7 @@ module _ {t : Prefix} {m : Lent} {r : Route} {k : Checked} where
         };
         listed = K .listed z;
         place = K .place z;
-        room = λ out. absurd (true≢false (sym lives ∙ sym (K .place z .live) ∙ out));
+        room = λ out. absurd (true≢false (sym lives ∙ sym (K .place z .is-live) ∙ out));
       }
 
 -- ---- painting
@@ -129,7 +129,7 @@ module _ {t : Prefix} {r : Route} {blocks : Blocks} {opens : Bool} {segment : �
   pub repaintable : opens ≡ false → Repaintable t (r .prefix) T
   repaintable o = record {
     ready = P .ready;
-    opened = λ long.
+    has-segment = λ long.
         by-lt (getD (T .first) (blockOf t (r .prefix .address)) 0) pointerBit
         (λ d. absurd (denies (needsSegment? t (r .prefix) T) (sym (P .needed) ∙ o) (long, d))) (λ g. g);
   }

@@ -35,8 +35,8 @@ use Rattle.tables.specs.Changes.{closes, closedAt, closedFor, changed, left, le
 use Rattle.ground.proofs.Members.{index-mem}
 use Rattle.rules.specs.Words.{routeOf}
 use Rattle.rules.proofs.LiveWords.{live-at}
-use Rattle.prefix.specs.Routes.{without, Ascending, AllRoutes, Route, keep, other, best}
-use Rattle.rules.specs.Rules.{live, routes, Formed, wordsOf}
+use Rattle.prefix.specs.Routes.{without, Ascending, Route, keep, other, best}
+use Rattle.rules.specs.Rules.{liveWords, routes, Formed, wordsOf}
 
 -- ---- the rules that are left
 
@@ -63,23 +63,23 @@ one-fewer {p} (r ∷ rs) o l = go (l .0) (l .1) (l .2) (λ s m q. one-fewer rs (
         (λ n. absurd (true≢false (sym (passes (other? p r) k) ∙ n)))
 
 -- a live word is one of the live words
-live-member : (ws : List ℕ) (i : ℕ) → i < length (live ws) → Mem (getD ws i 0) (live ws)
-live-member ws i h = subst (λ (w : ℕ). Mem w (live ws)) (live-at ws i h) (index-mem 0 (live ws) i h)
+live-member : (ws : List ℕ) (i : ℕ) → i < length (liveWords ws) → Mem (getD ws i 0) (liveWords ws)
+live-member ws i h = subst (λ (w : ℕ). Mem w (liveWords ws)) (live-at ws i h) (index-mem 0 (liveWords ws) i h)
 
 -- the words are as many as their routes
-count-routes : (ws : List ℕ) → length (routes ws) ≡ length (live ws)
+count-routes : (ws : List ℕ) → length (routes ws) ≡ length (liveWords ws)
 unfolding routes
-count-routes ws = length-map (live ws) routeOf
+count-routes ws = length-map (liveWords ws) routeOf
 
 module _ {t p : Prefix} {m : Lent} {k : Checked} (A : Takable t p k m) where
   abbrev rs : List Route
   rs = without p (routes (m .rules))
 
   lives : IsLive p (routes (m .rules))
-  lives = says (isLive? p (routes (m .rules))) (sym (A .place .live) ∙ A .lives)
+  lives = says (isLive? p (routes (m .rules))) (sym (A .place .is-live) ∙ A .lives)
 
   -- how many are left
-  pub left-count : suc (length rs) ≡ k .live
+  pub left-count : suc (length rs) ≡ k .used
   left-count = one-fewer (routes (m .rules)) (A .listed .order) lives ∙ count-routes (m .rules) ∙ sym (A .listed .count)
 
   left-formed : Formed t (wordsOf (length (m .rules)) rs)
@@ -92,9 +92,9 @@ module _ {t p : Prefix} {m : Lent} {k : Checked} (A : Takable t p k m) where
   pub left-routes : {ws : List ℕ} → ws ≡ wordsOf (length (m .rules)) rs → routes ws ≡ rs
   left-routes e = ap routes e ∙ routes-words (length (m .rules)) rs (without-routes p (routes (m .rules)) (A .listed .all))
 
-  pub left-listed : {ws : List ℕ} {n : ℕ} → ws ≡ wordsOf (length (m .rules)) rs → suc n ≡ k .live → Listed ws n
+  pub left-listed : {ws : List ℕ} {n : ℕ} → ws ≡ wordsOf (length (m .rules)) rs → suc n ≡ k .used → Listed ws n
   left-listed {ws} {n} e q =
-      let c : n ≡ length (live (wordsOf (length (m .rules)) rs)) =
+      let c : n ≡ length (liveWords (wordsOf (length (m .rules)) rs)) =
       let a = ap (λ (x : List Route). length x) (left-routes refl) in
       let b = count-routes (wordsOf (length (m .rules)) rs) in
       let d = left-count in
@@ -107,12 +107,12 @@ withdraw-takable {t} {p} {m} K z =
     let A = admitted t (withdraws p) m (sym (K .number) ∙ z) in
     let lives = live-passed p m (A .1) in
     record {
-      repaintable = record { ready = ready-of (A .0); opened = live-points (A .0) lives };
+      repaintable = record { ready = ready-of (A .0); has-segment = live-points (A .0) lives };
       touches = K .blocks z;
       formed = A .0 .sound .rules;
       listed = K .listed z;
       place = K .place z;
-      lives = K .place z .live ∙ lives;
+      lives = K .place z .is-live ∙ lives;
     }
 
 -- ---- repainting, or closing
@@ -130,12 +130,12 @@ module _ {t p : Prefix} {T : Tables} (R : Repaintable t p T) (rs : List Route) {
   closes-here e = e ∙ ap (λ (y : ℕ). ltb width (p .length) && not (isOpen rs y)) (at-start ∙ ap (blockStart t) at-block)
 
   pub closable : closes t p rs ≡ true → Closable t p T
-  closable e = let long = says (closes? t p rs) e .0 in record { ready = R .ready; longer = long; opened = R .opened long }
+  closable e = let long = says (closes? t p rs) e .0 in record { ready = R .ready; longer = long; has-segment = R .has-segment long }
 
-  pub unpainted-closed : {cell c : ℕ} {after : Tables} → closes t p rs ≡ true → cell ≡ cellOf (best rs a)
-      → left c after ≡ leaves (closedAt b (segmentAt T b) cell) T → left c after ≡ leaves (unpainted t p rs) T
+  pub unpainted-closed : {cell c : ℕ} {after : Tables} → closes t p rs ≡ true → left c after ≡ leaves (closedAt b (segmentAt T b) cell) T
+      → cell ≡ cellOf (best rs a) → left c after ≡ leaves (unpainted t p rs) T
   unfolding closedFor
-  unpainted-closed {cell} e q o =
+  unpainted-closed {cell} e o q =
       let f = unpaintCell (p .length) rs in
       let B = blockOf t (p .address) in
       let match = cellOf (best rs (blockStart t B)) in

@@ -85,6 +85,6 @@ pub fn put_checked(
         checked.opens,
         checked.segment,
     );
-    list::put(rules, checked.live, place, prefix, hop);
+    list::put(rules, checked.used, place, prefix, hop);
     Report { code: 0, cells }
 }

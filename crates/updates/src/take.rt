@@ -27,15 +27,15 @@ use tables::fill;
 
 // Whether a prefix of this length closes the block that starts at the address: it is longer than 24, and no rule that is left is longer
 // than 24 in the block.
-fn closes_block(rules: &[u64], live: usize, start: u32, length: u32) -> bool
-    requires { ⌜ Listed (now rules) live ⌝ }
+fn closes_block(rules: &[u64], used: usize, start: u32, length: u32) -> bool
+    requires { ⌜ Listed (now rules) used ⌝ }
     requires { ⌜ start % blockSize ≡ 0 ⌝ }
     ensures { λ r. ⌜ r ≡ (ltb width length && not (isOpen (routes (now (rules .entry))) start)) ⌝ }
 {
     if length <= Block::WIDTH {
         return false;
     }
-    !is_open(rules, live, start)
+    !is_open(rules, used, start)
 }
 
 // Repaints the cells of the prefix, or closes its segment, and returns how many cells differ.
@@ -44,24 +44,24 @@ fn unpaint_or_close(
     long: &mut [u32],
     owners: &mut [u32],
     rules: &[u64],
-    live: usize,
+    used: usize,
     territory: Prefix,
     prefix: Prefix,
     blocks: Blocks,
 ) -> u32
     requires { ⌜ Repaintable territory prefix (tables first long owners) ⌝ }
-    requires { ⌜ Listed (now rules) live ⌝ }
+    requires { ⌜ Listed (now rules) used ⌝ }
     requires { ⌜ blocks ≡ touched territory prefix ⌝ }
     ensures { λ r. ⌜ left r (tablesOut first long owners)
         ≡ leaves (unpainted territory prefix (routes (now (rules .entry)))) (tablesIn first long owners) ⌝ }
 {
     let block = blocks.from;
     let start = block_start(territory, block);
-    if closes_block(rules, live, start, prefix.length) {
-        let run = runs::longest(rules, live, start);
+    if closes_block(rules, used, start, prefix.length) {
+        let run = runs::longest(rules, used, start);
         return fill::close(first, long, owners, territory, prefix, block, run.cell);
     }
-    unpaint::unpaint(first, long, owners, rules, live, territory, prefix, blocks)
+    unpaint::unpaint(first, long, owners, rules, used, territory, prefix, blocks)
 }
 
 // A refusal as it was checked; else what was checked says where the prefix stands among the rules.
@@ -87,13 +87,13 @@ pub fn take_checked(
     }
     let blocks = checked.blocks;
     let place = checked.place;
-    list::take_out(rules, checked.live, place, prefix);
+    list::take_out(rules, checked.used, place, prefix);
     let cells = unpaint_or_close(
         first,
         long,
         owners,
         rules,
-        checked.live - 1,
+        checked.used - 1,
         territory,
         prefix,
         blocks,

@@ -58,7 +58,7 @@ returns-3 c =
     answered (now (s .first)) (now (s .long)) (s .territory) (now (s .addresses)) (now (s .answers)) (l, e)
     (passes-all (now (s .first)) (now (s .long)) (s .territory) (now (s .addresses)) (now (s .answers)) l
     (omega (arith, start .good)) (λ i h. omega (arith, known .shared-slice-known3 .given i)) e
-    (placing .places .ensures) (fetching .fetch .ensures) (judging .judge-all .ensures) (settling .settle-all .ensures))
+    (placing .places .ensures) (fetching .fetch .ensures) (judging .by-first-all .ensures) (settling .by-long-all .ensures))
 
 pub look-up-all-spec : {M : Type 1} → statement M
 look-up-all-spec =

@@ -23,12 +23,12 @@ unfoldable pub saidOrPointer : ℕ → ℕ
 saidOrPointer cell = cond (isPointer cell) cell (packed (verdictOf width cell))
 
 -- that in the territory, and refusal 3 outside it
-unfoldable pub judged : ℕ → ℕ → ℕ → ℕ → ℕ
-judged base blocks address cell = cond (ltb (blockFrom base address) blocks) (saidOrPointer cell) (packed (refused 3))
+unfoldable pub byFirst : ℕ → ℕ → ℕ → ℕ → ℕ
+byFirst base blocks address cell = cond (ltb (blockFrom base address) blocks) (saidOrPointer cell) (packed (refused 3))
 
 -- what a pointer says; no number of an answer is one
-unfoldable pub settled : List ℕ → ℕ → ℕ → ℕ
-settled long address word = cond (isPointer word) (packed (saysOf long (address % blockSize) word)) word
+unfoldable pub byLong : List ℕ → ℕ → ℕ → ℕ
+byLong long address word = cond (isPointer word) (packed (saysOf long (address % blockSize) word)) word
 
 -- ---- the passes, each over all answers
 
@@ -38,8 +38,8 @@ placedAll base blocks addresses answers = mapAt (λ i x. placeOf base blocks (ge
 abbrev pub fetchedAll : List ℕ → List ℕ → List ℕ
 fetchedAll first answers = mapAt (λ i x. getD first x 0) answers
 
-abbrev pub judgedAll : ℕ → ℕ → List ℕ → List ℕ → List ℕ
-judgedAll base blocks addresses answers = mapAt (λ i x. judged base blocks (getD addresses i 0) x) answers
+abbrev pub byFirstAll : ℕ → ℕ → List ℕ → List ℕ → List ℕ
+byFirstAll base blocks addresses answers = mapAt (λ i x. byFirst base blocks (getD addresses i 0) x) answers
 
-abbrev pub settledAll : List ℕ → List ℕ → List ℕ → List ℕ
-settledAll long addresses answers = mapAt (λ i x. settled long (getD addresses i 0) x) answers
+abbrev pub byLongAll : List ℕ → List ℕ → List ℕ → List ℕ
+byLongAll long addresses answers = mapAt (λ i x. byLong long (getD addresses i 0) x) answers

@@ -13,17 +13,17 @@ use Rattle.refusals.specs.Codes.{Call, change, tested, unlessLive, code}
 
 -- the number is `answer`; with 0 come how many rules are live, the place of the prefix p among them, the blocks that it touches, whether a
 -- segment is opened for it, and which
-pub record Told (t p : Prefix) (answer : Lent → ℕ) (opened : Tables → Bool) (m : Lent) (r : Checked) : Type 0 where
+pub record Learnt (t p : Prefix) (answer : Lent → ℕ) (opening : Tables → Bool) (m : Lent) (r : Checked) : Type 0 where
   pub number : r .code ≡ answer m
-  pub listed : r .code ≡ 0 → Listed (m .rules) (r .live)
-  pub place : r .code ≡ 0 → PlaceIs (m .rules) (r .live) p (r .place .at) (r .place .live)
+  pub listed : r .code ≡ 0 → Listed (m .rules) (r .used)
+  pub place : r .code ≡ 0 → PlaceIs (m .rules) (r .used) p (r .place .at) (r .place .found)
   pub blocks : r .code ≡ 0 → r .blocks ≡ touched t p
-  pub opens : r .code ≡ 0 → r .opens ≡ opened (m .tables)
+  pub opens : r .code ≡ 0 → r .opens ≡ opening (m .tables)
   pub segment : r .code ≡ 0 → r .opens ≡ true → r .segment ≡ lowestFree (m .tables .owners)
 
 -- the number is that of the call, and a segment is opened where one is needed
 abbrev pub CheckedIs : Prefix → Call → Lent → Checked → Type 0
-CheckedIs t c m r = Told t (named (change c)) (code t c) (needsSegment t (named (change c))) m r
+CheckedIs t c m r = Learnt t (named (change c)) (code t c) (needsSegment t (named (change c))) m r
 
 -- ---- on the way there
 
@@ -42,7 +42,7 @@ pub record Asked (c : Change) (p : Prefix) (lets : Bool) : Type 0 where
 
 -- what any such change is told by refusals 1 to 4, and by those and 5
 abbrev pub TestsTell : Prefix → Prefix → Bool → Lent → Checked → Type 0
-TestsTell t p lets m r = (c : Change) → Asked c p lets → Told t p (λ m. tested t c m 0) never m r
+TestsTell t p lets m r = (c : Change) → Asked c p lets → Learnt t p (λ m. tested t c m 0) never m r
 
 abbrev pub LiveTestsTell : Prefix → Prefix → Bool → Lent → Checked → Type 0
-LiveTestsTell t p lets m r = (c : Change) → Asked c p lets → Told t p (λ m. tested t c m (unlessLive p m)) (needsSegment t p) m r
+LiveTestsTell t p lets m r = (c : Change) → Asked c p lets → Learnt t p (λ m. tested t c m (unlessLive p m)) (needsSegment t p) m r

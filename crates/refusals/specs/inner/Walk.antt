@@ -5,7 +5,7 @@ use mathlib.Core.List.{List, []}
 use lib.ListN.{length, getD}
 use denote.Ref.{now}
 use Rattle.ground.specs.Lists.{everyBelow}
-use Rattle.rules.specs.inner.Blocks.{Reached}
+use Rattle.rules.specs.inner.Blocks.{CursorAt}
 use Rattle.prefix.specs.declared.Prefix.{Prefix}
 use Rattle.prefix.specs.declared.geometry.Blocks.{Blocks}
 use Rattle.prefix.specs.Geometry.{blockStart}
@@ -36,4 +36,4 @@ pub record MayWalk (t : Prefix) (bs : Blocks) (tables : Tables) (ws : List ℕ) 
   pub sized : Sized t tables
   pub lent : BlocksLent bs tables
   pub listed : Listed ws n
-  pub reached : Reached ws n (blockStart t (bs .from)) at
+  pub cursor : CursorAt ws n (blockStart t (bs .from)) at

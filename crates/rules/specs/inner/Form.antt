@@ -6,7 +6,7 @@ use mathlib.Core.List.{List}
 use lib.ListN.{length, getD}
 use Rattle.prefix.specs.declared.Prefix.{Prefix}
 use Rattle.rules.specs.Words.{IsRule}
-use Rattle.rules.specs.Rules.{live, formed}
+use Rattle.rules.specs.Rules.{liveWords, formed}
 use Rattle.rules.specs.inner.Places.{keyAt}
 
 -- the first n words are rules of the territory, and their keys ascend
@@ -23,4 +23,4 @@ pub record CountIs (t : Prefix) (ws : List ℕ) (n : ℕ) : Type 0 where
 -- what the form test answers: whether the words have the form, and if so how many are live
 pub record FormIs (t : Prefix) (ws : List ℕ) (ok : Bool) (n : ℕ) : Type 0 where
   pub test : ok ≡ formed t ws
-  pub count : ok ≡ true → n ≡ length (live ws)
+  pub count : ok ≡ true → n ≡ length (liveWords ws)

@@ -8,11 +8,11 @@ use lib.Seq.{slice}
 use Rattle.prefix.specs.declared.Prefix.{Prefix}
 use Rattle.prefix.specs.Routes.{AllRoutes, Ascending}
 use Rattle.rules.specs.Words.{prefixOf, keyOf}
-use Rattle.rules.specs.Rules.{live, routes, isLive}
+use Rattle.rules.specs.Rules.{liveWords, routes, isLive}
 
 -- the words have the form, whatever the territory, and the first n are live
 pub record Listed (ws : List ℕ) (n : ℕ) : Type 0 where
-  pub count : n ≡ length (live ws)
+  pub count : n ≡ length (liveWords ws)
   pub all : AllRoutes (routes ws)
   pub order : Ascending (routes ws)
   pub rest : (i : ℕ) → n ≤ i → getD ws i 0 ≡ 0
@@ -33,7 +33,7 @@ pub record PositionIs (ws : List ℕ) (n k at : ℕ) : Type 0 where
 -- at is where the prefix p stands among the first n words, or would stand, and found says whether it is live
 pub record PlaceIs (ws : List ℕ) (n : ℕ) (p : Prefix) (at : ℕ) (found : Bool) : Type 0 where
   pub position : PositionIs ws n (keyOf p) at
-  pub live : found ≡ isLive p (routes ws)
+  pub is-live : found ≡ isLive p (routes ws)
 
 -- the words with one put in at index at of the first n: those from there on are one place further
 abbrev pub insertedAt : List ℕ → ℕ → ℕ → ℕ → List ℕ

@@ -6,26 +6,26 @@ use Prim.Native.Nat.{ℕ}
 use native.Mathlib.Omega.{arith}
 use borrow.Author.Tests.{not-true, not-false}
 use Rattle.rules.proofs.Indices.{listed-within}
-use Rattle.runs.specs.inner.Steps.{settled, SharedIs}
+use Rattle.runs.specs.inner.Steps.{matchOrNone, SharedIs}
 use Rattle.runs.proofs.Places.{Climbing, climb-start, climb-done, climb-some, climb-length, climb-more}
 use Rattle.runs.proofs.climb.Statement.{statement}
 use Rattle.runs.proofs.climb.Tie as tie
 
 abbrev Inv-loop : tie.InvT-loop
-Inv-loop rules live address first length₀ i₀ length i = Climbing rules live address length i
+Inv-loop rules used address first length₀ i₀ length i = Climbing rules used address length i
 
 abbrev μ-loop : tie.MeasureT-loop
-μ-loop rules live address first length₀ i₀ length i = length
+μ-loop rules used address first length₀ i₀ length i = length
 
 -- a turn starts where the search is not settled
-turns : (c : tie.Then1 Inv-loop μ-loop) → let s = c .before .before .before .before .args in settled (s .rules .now) (s .address) (c .before .before .loop .i) ≡ false
-turns c = sym (c .before .is-settled .ensures) ∙ not-true _ (c .if1 .taken)
+turns : (c : tie.Then1 Inv-loop μ-loop) → let s = c .before .before .before .before .args in matchOrNone (s .rules .now) (s .address) (c .before .before .loop .i) ≡ false
+turns c = sym (c .before .is-match-or-none .ensures) ∙ not-true _ (c .if1 .taken)
 
 loop-holds : tie.Need-loop-holds Inv-loop μ-loop
 loop-holds c = climb-start (c .before .pre .0) (c .before .pre .1)
 
-is-settled-requires : tie.Need-is-settled-requires Inv-loop μ-loop
-is-settled-requires c κs = (c .before .before .pre .0, c .loop .inv .count .within)
+is-match-or-none-requires : tie.Need-is-match-or-none-requires Inv-loop μ-loop
+is-match-or-none-requires c κs = (c .before .before .pre .0, c .loop .inv .count .within)
 
 sub-address : tie.Need-sub-address Inv-loop μ-loop
 sub-address c = climb-some (c .before .before .before .before .pre .0) (c .before .before .loop .inv) (turns c)
@@ -62,7 +62,7 @@ loop-again c =
 
 returns : tie.Need-returns Inv-loop μ-loop
 returns c =
-    climb-done (c .before .before .before .before .pre .0) (c .before .before .loop .inv) (sym (c .before .is-settled .ensures) ∙ not-false _ (c .if1 .left))
+    climb-done (c .before .before .before .before .pre .0) (c .before .before .loop .inv) (sym (c .before .is-match-or-none .ensures) ∙ not-false _ (c .if1 .left))
 
 pub climb-spec : {M : Type 1} → statement M
 climb-spec =
@@ -71,7 +71,7 @@ climb-spec =
     Inv-loop
     μ-loop
     loop-holds
-    is-settled-requires
+    is-match-or-none-requires
     sub-address
     mul-address
     shared-slice-read-address

@@ -11,7 +11,7 @@ use Rattle.runs.proofs.next.Tie as tie
 returns : tie.Need-returns
 returns c =
     let s = c .before .before in
-    let none : s .args .first ≡ s .args .live = omega (arith, c .if1 .taken) in
+    let none : s .args .first ≡ s .args .used = omega (arith, c .if1 .taken) in
     next-none (s .args .address) (s .pre .0) (s .pre .1) none (s .fits .address .fits)
 
 mul-address : tie.Need-mul-address

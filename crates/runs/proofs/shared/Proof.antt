@@ -2,7 +2,7 @@
 -- Assumes nothing.
 use native.Mathlib.Omega.{arith}
 use borrow.Author.Needs.{needs}
-use Rattle.runs.proofs.Counted.{agree-to, apart-from}
+use Rattle.runs.proofs.SharedBits.{agree-to, apart-from}
 use Rattle.runs.proofs.shared.Statement.{statement}
 use Rattle.runs.proofs.shared.Tie as tie
 

@@ -18,16 +18,16 @@ abbrev pub around : ℕ → ℕ → Prefix
 around l a = record { address = clearedOf l a; length = l }
 
 -- the i-th of the words, counted from 1: the last of the first i
-abbrev pub lastOf : List ℕ → ℕ → ℕ
-lastOf ws i = getD ws (i - 1) 0
+abbrev pub lastWord : List ℕ → ℕ → ℕ
+lastWord ws i = getD ws (i - 1) 0
 
 -- r is how many of the first n words are of a prefix up to that of length l around a, in the order of (address, length)
 abbrev pub CountUpTo : List ℕ → ℕ → ℕ → ℕ → ℕ → Type 0
 CountUpTo ws n l a r = PositionIs ws n (keyOf (around l a) + 1) r
 
 -- no word is left, or the last of the first i contains a
-unfoldable pub settled : List ℕ → ℕ → ℕ → Bool
-settled ws a i = eqb i 0 || contains (prefixOf (lastOf ws i)) a
+unfoldable pub matchOrNone : List ℕ → ℕ → ℕ → Bool
+matchOrNone ws a i = eqb i 0 || contains (prefixOf (lastWord ws i)) a
 
 -- the largest number below the limit of leading bits that the addresses a and b share
 pub record SharedIs (a b limit r : ℕ) : Type 0 where
@@ -39,7 +39,7 @@ pub record SharedIs (a b limit r : ℕ) : Type 0 where
 pub record ClimbIs (ws : List ℕ) (n a r : ℕ) : Type 0 where
   pub within : r ≤ n
   pub none : r ≡ 0 → (s : Route) → Mem s (routes ws) → ¬ Contains (s .prefix) a
-  pub found : 0 < r → IsLongest (routes ws) a (routeOf (lastOf ws r))
+  pub found : 0 < r → IsLongest (routes ws) a (routeOf (lastWord ws r))
 
 -- r is past a, and no route starts between: none past a and before r
 pub record NextIs (rs : List Route) (a r : ℕ) : Type 0 where

@@ -37,7 +37,7 @@ pub record Ready (t p : Prefix) (tables : Tables) : Type 0 where
 -- and a prefix longer than 24 has an open block: its cells can be repainted
 pub record Repaintable (t p : Prefix) (tables : Tables) : Type 0 where
   pub ready : Ready t p tables
-  pub opened : width < p .length → Points tables (blockOf t (p .address))
+  pub has-segment : width < p .length → Points tables (blockOf t (p .address))
 
 -- the prefix is longer than 24, its block has no segment, and s is one that is lent
 pub record Openable (t p : Prefix) (s : ℕ) (tables : Tables) : Type 0 where
@@ -52,4 +52,4 @@ pub record Openable (t p : Prefix) (s : ℕ) (tables : Tables) : Type 0 where
 pub record Closable (t p : Prefix) (tables : Tables) : Type 0 where
   pub ready : Ready t p tables
   pub longer : width < p .length
-  pub opened : Points tables (blockOf t (p .address))
+  pub has-segment : Points tables (blockOf t (p .address))

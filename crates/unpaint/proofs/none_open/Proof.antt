@@ -3,13 +3,13 @@
 use Prim.Native.Nat.{_-_}
 use native.Mathlib.Omega.{arith}
 use borrow.Author.Tests.{eqb-true}
-use Rattle.unpaint.proofs.Unpainting.{Counted, count-start, count-more}
+use Rattle.unpaint.proofs.Unpainting.{PointersCounted, count-start, count-more}
 use borrow.Author.Needs.{needs}
 use Rattle.unpaint.proofs.none_open.Statement.{statement}
 use Rattle.unpaint.proofs.none_open.Tie as tie
 
 abbrev Inv-loop : tie.InvT-loop
-Inv-loop first from to pointers₀ i₀ pointers i = Counted from to first pointers i
+Inv-loop first from to pointers₀ i₀ pointers i = PointersCounted from to first pointers i
 
 abbrev μ-loop : tie.MeasureT-loop
 μ-loop first from to pointers₀ i₀ pointers i = to - i

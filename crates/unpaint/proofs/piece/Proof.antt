@@ -15,7 +15,7 @@ returns c =
       within = omega (arith, last .fit, some .few);
       few = omega (arith, last .few);
       fit = omega (arith, all .fit, some .fit, last .fit, last .some);
-      closed = c .before .none-open .ensures (c .if1 .taken);
+      closed = λ k low high. c .before .none-open .ensures (c .if1 .taken) k (omega arith) (omega arith);
     }
 
 pub piece-spec : {M : Type 1} → statement M

@@ -64,8 +64,8 @@ slice-read-segment c = let s = entry (c .before .before) in omega (arith, block-
 segment-requires : tie.Need-segment-requires
 segment-requires c κs = omega (arith, points (open-block (c .before)) (from (entry (c .before .before))))
 
-run-of-requires : tie.Need-run-of-requires
-run-of-requires c κs =
+prefix-cells-requires : tie.Need-prefix-cells-requires
+prefix-cells-requires c κs =
     let k = c .before .before in
     let lent = owns (open-block k) (from (entry (k .before))) .lent in
     (omega (arith, c .segment .ensures, open-block k .ready .sized .few), (omega (arith, k .if1 .left), open-block k .ready .formed .short))
@@ -75,7 +75,7 @@ unpaint-run-requires c κs =
     let at-segment = c .before .before in
     let k = at-segment .before .before in
     let s = entry (k .before) in
-    let run = c .before .run-of .ensures in
+    let run = c .before .prefix-cells .ensures in
     let small = ends-within (s .pre .0 .ready .formed) (omega arith) in (
       run-within (open-block k) (from s) (at-segment .segment .ensures) run,
       (omega (arith, run .high, small), record { listed = s .pre .1 .1; kept = k .before .longest .ensures .kept }),
@@ -87,7 +87,7 @@ returns-2 c =
     let at-segment = at-run .before .before .before in
     let k = at-segment .before .before in
     let s = entry (k .before) in
-    let run = at-run .before .before .run-of .ensures in
+    let run = at-run .before .before .prefix-cells .ensures in
     let f = unpaintCell (s .args .prefix .length) (routes (now (s .args .rules))) in
     run-repainted (open-block k) (from s) (at-segment .segment .ensures) run f
     (run-counted (open-block k) (from s) (at-segment .segment .ensures) run f (at-run .unpaint-run .ensures .changed))
@@ -105,7 +105,7 @@ unpaint-spec =
     mul-segment
     slice-read-segment
     segment-requires
-    run-of-requires
+    prefix-cells-requires
     unpaint-run-requires
     (λ c. search needs)
     returns-2)

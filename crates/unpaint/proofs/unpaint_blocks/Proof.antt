@@ -13,12 +13,12 @@ use Rattle.unpaint.proofs.unpaint_blocks.Statement.{statement}
 use Rattle.unpaint.proofs.unpaint_blocks.Tie as tie
 
 abbrev Inv-loop : tie.InvT-loop
-Inv-loop first₀ long₀ owners rules live territory from to length changed₀ kept₀ block₀ first long changed kept block =
+Inv-loop first₀ long₀ owners rules used territory from to length changed₀ kept₀ block₀ first long changed kept block =
     (from ≤ block) × (block ≤ to)
-    × BlocksUnpainted territory length rules live from block (tablesOf first₀ long₀ owners) first long changed kept
+    × BlocksUnpainted territory length rules used from block (tablesOf first₀ long₀ owners) first long changed kept
 
 abbrev μ-loop : tie.MeasureT-loop
-μ-loop first₀ long₀ owners rules live territory from to length changed₀ kept₀ block₀ first long changed kept block = to - block
+μ-loop first₀ long₀ owners rules used territory from to length changed₀ kept₀ block₀ first long changed kept block = to - block
 
 abbrev entry : tie.At-loop Inv-loop μ-loop → tie.Start Inv-loop μ-loop
 entry c = c .before .before .before .before .before .before .before

@@ -7,18 +7,18 @@ use Rattle.runs.specs.inner.Kept.{Kept}
 use Rattle.runs.proofs.Covered.{kept-later}
 use Rattle.tables.specs.Cellwise.{unpaintCell}
 use Rattle.tables.proofs.Ranges.{Reached, start, finish}
-use Rattle.unpaint.proofs.Unpainting.{skipped-run, run-taken, part, part-none}
+use Rattle.unpaint.proofs.Unpainting.{skipped-run, skipped-from, run-taken, part, part-none}
 use borrow.Author.Needs.{needs}
 use Rattle.unpaint.proofs.unpaint_run.Statement.{statement}
 use Rattle.unpaint.proofs.unpaint_run.Tie as tie
 
 abbrev Inv-loop : tie.InvT-loop
-Inv-loop cells₀ from to start rules live length changed₀ kept₀ i₀ cells changed kept i =
+Inv-loop cells₀ from to start rules used length changed₀ kept₀ i₀ cells changed kept i =
     Reached (λ k. unpaintCell length (routes rules) (start + (k - from))) from to cells₀ cells changed i
-    × Kept rules live (start + (i - from)) kept
+    × Kept rules used (start + (i - from)) kept
 
 abbrev μ-loop : tie.MeasureT-loop
-μ-loop cells₀ from to start rules live length changed₀ kept₀ i₀ cells changed kept i = to - i
+μ-loop cells₀ from to start rules used length changed₀ kept₀ i₀ cells changed kept i = to - i
 
 loop-holds : tie.Need-loop-holds Inv-loop μ-loop
 loop-holds c =
@@ -45,11 +45,12 @@ loop-again c =
     let found = c .before .before .before .before .before .before .before .before .run-at .ensures in
     let reached = c .before .before .before .before .before .before .reach .ensures in
     let replaced = c .before .before .before .before .replace-run .ensures in
-    let passed = c .skip2 .ensures in
+    let passed = skipped-from {i = at-loop .loop .i + c .before .before .before .before .before .before .reach .result} (c .skip2 .ensures) (omega arith) in
     let address : ℕ → ℕ = λ k. s .args .start + (k - s .args .from) in (
       part-none
           (part (at-loop .loop .inv .0) (omega arith) (omega (arith, reached .few))
-          (run-taken (s .args .length) address (found .kept) (λ k low high. (omega arith, omega (arith, reached .fit))) (replaced .changed)) (replaced .few))
+          (run-taken (s .args .length) address (found .kept) (λ k low high. (omega arith, omega (arith, reached .fit))) (replaced .changed) (omega arith))
+          (replaced .few))
           (passed .low) (passed .high) (skipped-run passed (routes (s .args .rules .now)) address),
       kept-later (omega (arith, passed .low, reached .some)) (found .kept),
     )

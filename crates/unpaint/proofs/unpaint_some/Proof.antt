@@ -31,7 +31,7 @@ begun c = c .before .before .before
 end : (c : tie.Start) → blockStart (c .args .territory) (c .args .block + 1) ≤ 2 ^ 32
 end c = block-ends (c .pre .0 .sized) (omega arith) (omega (arith, c .pre .0 .within))
 
-asking : (c : tie.After-block-start) → let a = entry c .args in Asking (now (a .rules)) (a .live) (c .block-start .result) (a .run)
+asking : (c : tie.After-block-start) → let a = entry c .args in Asking (now (a .rules)) (a .used) (c .block-start .result) (a .run)
 asking c = let pre = entry c .pre .1 .1 in record { listed = pre .listed; kept = kept-later (omega (arith, c .block-start .ensures)) (pre .kept) }
 
 owns : (c : tie.Then1) → let a = entry (begun c) .args in let T = tables (a .first) (a .long) (a .owners) in Owns T (a .block) (segmentAt T (a .block))
@@ -105,7 +105,7 @@ returns-2 c =
       done = record {
         blocks = blocks-closed (piece .closed)
             (run-taken (a .length) (blockStart (a .territory)) (found .kept) (λ k low high. (omega (arith, start), omega (arith, start, piece .fit)))
-            (c .before .before .replace-run .ensures .changed));
+            (c .before .before .replace-run .ensures .changed) (omega arith));
         kept = kept-later (omega (arith, start, piece .some)) (found .kept);
       };
     }

@@ -27,9 +27,9 @@ pub record Paintable (t : Prefix) (r : Route) (blocks : Blocks) (opens : Bool) (
 -- and it can be put among the rules, at the place that was found
 pub record Puttable (t : Prefix) (r : Route) (checked : Checked) (m : Lent) : Type 0 where
   pub paintable : Paintable t r (checked .blocks) (checked .opens) (checked .segment) (m .tables)
-  pub listed : Listed (m .rules) (checked .live)
-  pub place : PlaceIs (m .rules) (checked .live) (r .prefix) (checked .place .at) (checked .place .live)
-  pub room : checked .place .live ≡ false → checked .live < length (m .rules)
+  pub listed : Listed (m .rules) (checked .used)
+  pub place : PlaceIs (m .rules) (checked .used) (r .prefix) (checked .place .at) (checked .place .found)
+  pub room : checked .place .found ≡ false → checked .used < length (m .rules)
 
 -- ---- withdraw
 
@@ -38,6 +38,6 @@ pub record Takable (t p : Prefix) (checked : Checked) (m : Lent) : Type 0 where
   pub repaintable : Repaintable t p (m .tables)
   pub touches : checked .blocks ≡ touched t p
   pub formed : Formed t (m .rules)
-  pub listed : Listed (m .rules) (checked .live)
-  pub place : PlaceIs (m .rules) (checked .live) p (checked .place .at) (checked .place .live)
-  pub lives : checked .place .live ≡ true
+  pub listed : Listed (m .rules) (checked .used)
+  pub place : PlaceIs (m .rules) (checked .used) p (checked .place .at) (checked .place .found)
+  pub lives : checked .place .found ≡ true

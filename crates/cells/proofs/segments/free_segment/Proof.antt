@@ -15,6 +15,9 @@ Inv-loop owners i₀ i = ((k : ℕ) → k < i → getD owners k 0 ≡ 0 → ⊥)
 abbrev μ-loop : tie.MeasureT-loop
 μ-loop owners i₀ i = length owners - i
 
+loop-holds : tie.Need-loop-holds Inv-loop μ-loop
+loop-holds c = (λ k l z. absurd (omega arith), omega arith)
+
 returns : tie.Need-returns Inv-loop μ-loop
 returns c = sym (lowest-is _ _ (omega arith) (c .before .before .before .loop .inv .0) (c .if1 .taken))
 
@@ -30,7 +33,7 @@ free-segment-spec =
     (tie.spec
     Inv-loop
     μ-loop
-    (λ c. search needs)
+    loop-holds
     (λ c. search needs)
     (λ c. search needs)
     returns

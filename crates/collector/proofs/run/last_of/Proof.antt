@@ -7,13 +7,13 @@ use Rattle.collector.proofs.run.last_of.Statement.{statement}
 use Rattle.collector.proofs.run.last_of.Tie as tie
 
 returns : tie.Need-returns
-returns c = sym (ap (λ (x : Next). lastOf x (c .before .before .before .args .live) (c .before .before .before .args .opened)) (c .before .next .given .1))
+returns c = sym (ap (λ (x : Next). lastOf x (c .before .before .before .args .prefixes) (c .before .before .before .args .segments)) (c .before .next .given .1))
 
 returns-2 : tie.Need-returns-2
-returns-2 c = sym (ap (λ (x : Next). lastOf x (c .before .before .args .live) (c .before .before .args .opened)) (c .enum-told .given .1))
+returns-2 c = sym (ap (λ (x : Next). lastOf x (c .before .before .args .prefixes) (c .before .before .args .segments)) (c .enum-told .given .1))
 
 returns-3 : tie.Need-returns-3
-returns-3 c = sym (ap (λ (x : Next). lastOf x (c .before .before .args .live) (c .before .before .args .opened)) (c .enum-told2 .given .1))
+returns-3 c = sym (ap (λ (x : Next). lastOf x (c .before .before .args .prefixes) (c .before .before .args .segments)) (c .enum-told2 .given .1))
 
 pub last-of-spec : {M : Type 1} → statement M
 last-of-spec =

@@ -19,8 +19,8 @@ use Rattle.cells.proofs.FreeSegments.{noZero?}
 use Rattle.rules.specs.Words.{routeBy}
 use Rattle.rules.specs.Rules.{routes, isLive}
 use Rattle.refusals.specs.Codes.{tested, unlessRoom, code}
-use Rattle.refusals.specs.inner.Checks.{Told, never}
-use Rattle.refusals.proofs.Refusing.{refused-is, told-as, stays, goes-on, let-pass, full, by-room}
+use Rattle.refusals.specs.inner.Checks.{Learnt, never}
+use Rattle.refusals.proofs.Refusing.{refused-is, learnt-as, stays, goes-on, let-pass, full, by-room}
 use borrow.Author.Needs.{needs}
 use Rattle.refusals.proofs.codes.announce_checked.Statement.{statement}
 use Rattle.refusals.proofs.codes.announce_checked.Tie as tie
@@ -35,31 +35,31 @@ tests-requires : tie.Need-tests-requires
 tests-requires c κs = λ e. says (isRoute? _) (sym (c .is-route .ensures) ∙ e) .formed
 
 -- what the tests answered
-told : (c : tie.After-tests) → let s = c .before .before .before .before .before .before in
-    Told (s .args .territory) (s .args .prefix) (λ m. tested (s .args .territory) (puts (route s)) m 0) never (lent-of s) (c .tests .result)
+learnt : (c : tie.After-tests) → let s = c .before .before .before .before .before .before in
+    Learnt (s .args .territory) (s .args .prefix) (λ m. tested (s .args .territory) (puts (route s)) m 0) never (lent-of s) (c .tests .result)
 unfolding isChange
-told c = c .tests .ensures (puts (route (c .before .before .before .before .before .before))) (record { names = refl; numbers = c .before .is-route .ensures })
+learnt c = c .tests .ensures (puts (route (c .before .before .before .before .before .before))) (record { names = refl; numbers = c .before .is-route .ensures })
 
 returns : tie.Need-returns
 unfolding code
-returns c = let s = c .before .before .before .before .before .before .before .before in stays (puts (route s)) (told (c .before .before)) (unlessRoom (s .args .territory) (s .args .prefix)) (c .if1 .taken)
+returns c = let s = c .before .before .before .before .before .before .before .before in stays (puts (route s)) (learnt (c .before .before)) (unlessRoom (s .args .territory) (s .args .prefix)) (c .if1 .taken)
 
 -- the test of refusal 6
 no-room : (c : tie.After-is-full) → let s = c .before .before .before .before .before .before .before .before .before .before .args in c .is-full .result ≡ (not (isLive (s .prefix) (routes (s .rules .now))) && noZero (s .rules .now))
-no-room c = c .is-full .ensures ∙ full (puts (route (c .before .before .before .before .before .before .before .before .before .before))) (told (c .before .before .before .before)) (c .before .before .if1 .left)
+no-room c = c .is-full .ensures ∙ full (puts (route (c .before .before .before .before .before .before .before .before .before .before))) (learnt (c .before .before .before .before)) (c .before .before .if1 .left)
 
 returns-2 : tie.Need-returns-2
 unfolding code
 returns-2 c =
     let s = c .before .before .before .before .before .before .before .before .before .before .before .before in
     let six : 6 ≡ unlessRoom (s .args .territory) (s .args .prefix) (lent-of s) = by-room _ _ (lent-of s) (sym (no-room (c .before .before)) ∙ c .before .if2 .taken) refl refl in
-    refused-is (goes-on (puts (route s)) (told (c .before .before .before .before .before .before)) (c .before .before .before .before .if1 .left) six) (omega (arith, c .refused .ensures)) (λ z. omega arith)
+    refused-is (goes-on (puts (route s)) (learnt (c .before .before .before .before .before .before)) (c .before .before .before .before .if1 .left) six) (omega (arith, c .refused .ensures)) (λ z. omega arith)
 
 -- the block has a cell
 cell-lent : (c : tie.Else1) → c .before .before .tests .result .blocks .from < length (c .before .before .before .before .before .before .before .before .args .first .now)
 cell-lent c =
-    let k = let-pass (puts (route (c .before .before .before .before .before .before .before .before))) (told (c .before .before)) (c .if1 .left) in
-    omega (arith, ap (λ (b : Blocks). b .from) (told (c .before .before) .blocks (c .if1 .left)), block-inside (k .lent .sized .territory) (k .inside .inside), k .lent .sized .firsts)
+    let k = let-pass (puts (route (c .before .before .before .before .before .before .before .before))) (learnt (c .before .before)) (c .if1 .left) in
+    omega (arith, ap (λ (b : Blocks). b .from) (learnt (c .before .before) .blocks (c .if1 .left)), block-inside (k .lent .sized .territory) (k .inside .inside), k .lent .sized .firsts)
 
 mul-needs-segment : tie.Need-mul-needs-segment
 mul-needs-segment c = omega (arith, cell-lent (c .before .before .before .before))
@@ -73,14 +73,14 @@ unfolding needsSegment
 needed c =
     let s = c .before .before .before .before .before .before .before .before .before .before .before .before .before .before .args in
     c .needs-segment .ensures
-    ∙ ap (λ (b : Blocks). ltb width (s .prefix .length) && not (isPointer (getD (s .first .now) (b .from) 0))) (told (c .before .before .before .before .before .before .before .before) .blocks (c .before .before .before .before .before .before .if1 .left))
+    ∙ ap (λ (b : Blocks). ltb width (s .prefix .length) && not (isPointer (getD (s .first .now) (b .from) 0))) (learnt (c .before .before .before .before .before .before .before .before) .blocks (c .before .before .before .before .before .before .if1 .left))
 
 returns-3 : tie.Need-returns-3
 unfolding code
 returns-3 c =
     let s = c .before .before .before .before .before .before .before .before .before .before .before .before .before .before .before in
     let no = sym (needed (c .before)) ∙ not-true _ (c .if3 .taken) in
-    told-as (told (c .before .before .before .before .before .before .before .before .before)) (ap (tested (s .args .territory) (puts (route s)) (lent-of s)) (by-room _ _ (lent-of s) (sym (no-room (c .before .before .before .before .before)) ∙ c .before .before .before .before .if2 .left) no refl)) (λ z. sym no)
+    learnt-as (learnt (c .before .before .before .before .before .before .before .before .before)) (ap (tested (s .args .territory) (puts (route s)) (lent-of s)) (by-room _ _ (lent-of s) (sym (no-room (c .before .before .before .before .before)) ∙ c .before .before .before .before .if2 .left) no refl)) (λ z. sym no)
 
 returns-4 : tie.Need-returns-4
 unfolding code
@@ -88,13 +88,13 @@ returns-4 c =
     let s = c .before .before .before .before .before .before .before .before .before .before .before .before .before .before .before .before .before .before in
     let seven : 7 ≡ unlessRoom (s .args .territory) (s .args .prefix) (lent-of s) = by-room _ _ (lent-of s) (sym (no-room (c .before .before .before .before .before .before .before .before)) ∙ c .before .before .before .before .before .before .before .if2 .left)
     (sym (needed (c .before .before .before .before)) ∙ not-false _ (c .before .before .before .if3 .left)) (passes (noZero? (s .args .owners .now)) (omega (arith, c .before .before .free-segment .ensures))) in
-    refused-is (goes-on (puts (route s)) (told (c .before .before .before .before .before .before .before .before .before .before .before .before)) (c .before .before .before .before .before .before .before .before .before .before .if1 .left) seven) (omega (arith, c .refused2 .ensures)) (λ z. omega arith)
+    refused-is (goes-on (puts (route s)) (learnt (c .before .before .before .before .before .before .before .before .before .before .before .before)) (c .before .before .before .before .before .before .before .before .before .before .if1 .left) seven) (omega (arith, c .refused2 .ensures)) (λ z. omega arith)
 
 returns-5 : tie.Need-returns-5
 unfolding code
 returns-5 c =
     let s = c .before .before .before .before .before .before .before .before .before .before .before .before .before .before .before .before .before in
-    let k = told (c .before .before .before .before .before .before .before .before .before .before .before) in
+    let k = learnt (c .before .before .before .before .before .before .before .before .before .before .before) in
     let yes = sym (needed (c .before .before .before)) ∙ not-false _ (c .before .before .if3 .left) in
     let free = stops (noZero? (s .args .owners .now)) (λ e. c .if4 .left (omega (arith, c .before .free-segment .ensures))) in
     record {
@@ -102,7 +102,7 @@ returns-5 c =
       listed = k .listed;
       place = k .place;
       blocks = k .blocks;
-      opens = λ z. search (sym yes);
+      opens = λ z. sym yes;
       segment = λ z e. c .before .free-segment .ensures;
     }
 

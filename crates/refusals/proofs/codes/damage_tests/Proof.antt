@@ -34,7 +34,7 @@ returns c =
 formed : (c : tie.Else1) → let s = c .before .before .before .before .before .before .before .args in Formed (s .territory) (s .rules .now)
 formed c = if-so (formed? _ _) (c .before .before .form-of .ensures .test) (c .if1 .left)
 
-listed : (c : tie.Else1) → Listed (c .before .before .before .before .before .before .before .args .rules .now) (c .before .before .form-of .result .live)
+listed : (c : tie.Else1) → Listed (c .before .before .before .before .before .before .before .args .rules .now) (c .before .before .form-of .result .used)
 listed c = subst (Listed (c .before .before .before .before .before .before .before .args .rules .now)) (sym (c .before .before .form-of .ensures .count (not-false _ (c .if1 .left)))) (formed-listed (formed c))
 
 touched-requires : tie.Need-touched-requires

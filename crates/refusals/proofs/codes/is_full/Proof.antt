@@ -9,7 +9,7 @@ use Rattle.refusals.proofs.codes.is_full.Tie as tie
 returns-2 : tie.Need-returns-2
 returns-2 c =
     let s = c .before .args in
-    sym (ap (λ (t : Bool). not t && eqb (s .live) (s .words)) (c .if1 .left))
+    sym (ap (λ (t : Bool). not t && eqb (s .used) (s .words)) (c .if1 .left))
 
 pub is-full-spec : {M : Type 1} → statement M
 is-full-spec = tie.close (tie.spec (λ c. search needs) returns-2)

@@ -7,7 +7,7 @@ use Rattle.prefix.specs.declared.Prefix.{Prefix}
 use Rattle.cells.specs.Memory.{Lent, lent, needsSegment}
 use Rattle.rules.specs.Rules.{routes, isLive}
 use Rattle.refusals.specs.Codes.{tested, unlessLive}
-use Rattle.refusals.proofs.Refusing.{refused-is, told-as, stays, goes-on, let-pass, by-live, live-needs-none}
+use Rattle.refusals.proofs.Refusing.{refused-is, learnt-as, stays, goes-on, let-pass, by-live, live-needs-none}
 use borrow.Author.Needs.{needs}
 use Rattle.refusals.proofs.codes.live_tests.Statement.{statement}
 use Rattle.refusals.proofs.codes.live_tests.Tie as tie
@@ -23,7 +23,7 @@ returns-2 c = λ ch a.
     let s = c .before .before .before .before .before .before .before .before .before .before in
     let k = c .before .before .before .before .before .tests .ensures ch a in
     let zero = c .before .before .before .if1 .left in
-    let five : 5 ≡ unlessLive (s .args .prefix) (lent-of s) = by-live _ (lent-of s) (sym (k .place zero .live) ∙ not-true _ (c .before .if2 .taken)) in
+    let five : 5 ≡ unlessLive (s .args .prefix) (lent-of s) = by-live _ (lent-of s) (sym (k .place zero .is-live) ∙ not-true _ (c .before .if2 .taken)) in
     refused-is (goes-on ch k zero five) (omega (arith, c .refused .ensures)) (λ z. omega arith)
 
 returns-3 : tie.Need-returns-3
@@ -34,10 +34,10 @@ returns-3 c = λ ch a.
     let m = lent-of s in
     let k = c .before .before .before .before .tests .ensures ch a in
     let zero = c .before .before .if1 .left in
-    let lives : isLive p (routes (m .rules)) ≡ true = sym (k .place zero .live) ∙ not-false _ (c .if2 .left) in
+    let lives : isLive p (routes (m .rules)) ≡ true = sym (k .place zero .is-live) ∙ not-false _ (c .if2 .left) in
     let none : needsSegment t p (m .tables) ≡ false =
     subst (λ (q : Prefix). isLive q (routes (m .rules)) ≡ true → needsSegment t q (m .tables) ≡ false) (a .names) (live-needs-none (let-pass ch k zero)) lives in
-    told-as k (ap (tested t ch m) (by-live p m lives)) (λ z. sym none)
+    learnt-as k (ap (tested t ch m) (by-live p m lives)) (λ z. sym none)
 
 pub live-tests-spec : {M : Type 1} → statement M
 live-tests-spec = tie.close (tie.spec (λ c κs. search needs) returns (λ c κs. search needs) returns-2 returns-3)

@@ -8,7 +8,7 @@ use Rattle.prefix.proofs.Prefixes.{encloses?}
 use Rattle.cells.specs.Memory.{Lent, lent, IsLent}
 use Rattle.cells.proofs.Lending.{isLent?}
 use Rattle.refusals.specs.Codes.{tested}
-use Rattle.refusals.proofs.Refusing.{by-tests, refused-is, told-as}
+use Rattle.refusals.proofs.Refusing.{by-tests, refused-is, learnt-as}
 use borrow.Author.Needs.{needs}
 use Rattle.refusals.proofs.codes.tests.Statement.{statement}
 use Rattle.refusals.proofs.codes.tests.Tie as tie
@@ -23,7 +23,7 @@ returns c = λ ch a.
     refused-is one (omega (arith, c .refused .ensures)) (λ z. omega arith)
 
 -- past the first test what is lent is right
-lent-right : (c : tie.Else1) → let s = c .before .before .before .before .before .before in IsLent (lent-of s) (s .args .territory)
+lent-right : (c : tie.Else1) → let s = c .before .before .before .before .before .before in IsLent (s .args .territory) (lent-of s)
 lent-right c = let s = c .before .before .before .before .before .before in if-so (isLent? _ _) (c .before .lent .ensures) (c .if1 .left)
 
 returns-2 : tie.Need-returns-2
@@ -51,7 +51,7 @@ damage-tests-requires c κs = (lent-right (c .before .before .before), (c .befor
 
 returns-4 : tie.Need-returns-4
 returns-4 c = λ ch a.
-    told-as (c .damage-tests .ensures)
+    learnt-as (c .damage-tests .ensures)
     (by-tests _ (lent-of (c .before .before .before .before .before .before .before .before .before .before)) a (sym (c .before .before .before .before .before .lent .ensures) ∙ not-false _ (c .before .before .before .before .if1 .left)) (not-false _ (c .before .before .before .if2 .left)) (sym (c .before .before .encloses .ensures) ∙ not-false _ (c .before .if3 .left)))
     (λ z. refl)
 

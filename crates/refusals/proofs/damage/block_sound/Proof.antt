@@ -38,7 +38,7 @@ returns-3 c =
     let s = c .before .before .before .before .before .before .before .args in
     let damaged : soundBy (tables (s .first) (s .long) (s .owners)) (s .block) (s .opened) ≡ false =
     stops (soundBy? _ _ _) (λ b. true≢false (sym (b .pointer (pointer (c .before)) .1) ∙ not-true _ (c .if3 .taken))) in
-    search (sym damaged)
+    sym damaged
 
 segment-requires : tie.Need-segment-requires
 segment-requires c κs = pointer (c .before)

@@ -2,7 +2,7 @@
 use mathlib.Core.Path.{subst}
 use Prim.Native.Nat.{ℕ}
 use native.Mathlib.Omega.{arith}
-use Rattle.rules.specs.inner.Blocks.{Reached}
+use Rattle.rules.specs.inner.Blocks.{CursorAt}
 use Rattle.refusals.proofs.Turns.{start-within}
 use borrow.Author.Needs.{needs}
 use Rattle.refusals.proofs.damage.blocks_sound.Statement.{statement}
@@ -18,7 +18,7 @@ walk-requires c κs =
       sized = s .pre .0 .0;
       lent = s .pre .0 .1;
       listed = s .pre .1;
-      reached = subst (λ (a : ℕ). Reached (s .args .rules .now) (s .args .live) a (c .reach .result)) (c .before .block-start .ensures) (c .reach .ensures);
+      cursor = subst (λ (a : ℕ). CursorAt (s .args .rules .now) (s .args .used) a (c .cursor-at .result)) (c .before .block-start .ensures) (c .cursor-at .ensures);
     }
 
 pub blocks-sound-spec : {M : Type 1} → statement M

@@ -9,24 +9,24 @@ use Rattle.ground.proofs.Tests.{passes, stops, if-so, if-not}
 use Rattle.prefix.specs.Geometry.{width, blockSize}
 use Rattle.prefix.proofs.Spans.{aligned}
 use Rattle.cells.proofs.Lending.{few-firsts}
-use Rattle.rules.specs.inner.Blocks.{Reached}
+use Rattle.rules.specs.inner.Blocks.{CursorAt}
 use Rattle.refusals.proofs.Soundness.{CleanRun, cleanRun?, soundBy?, soundRun?}
 use Rattle.refusals.proofs.Turns.{Walked, start-within, clean-run, sound-run, sound-here, walked-on}
 use Rattle.refusals.proofs.damage.walk.Statement.{statement}
 use Rattle.refusals.proofs.damage.walk.Tie as tie
 
 abbrev Inv-loop : tie.InvT-loop
-Inv-loop first long owners rules live territory at end block₀ here₀ block here =
-    Walked territory (record { first = first; long = long; owners = owners }) rules live block₀ block here × (block ≤ end)
+Inv-loop first long owners rules used territory at end block₀ here₀ block here =
+    Walked territory (record { first = first; long = long; owners = owners }) rules used block₀ block here × (block ≤ end)
 
 abbrev μ-loop : tie.MeasureT-loop
-μ-loop first long owners rules live territory at end block₀ here₀ block here = end - block
+μ-loop first long owners rules used territory at end block₀ here₀ block here = end - block
 
 add-end : tie.Need-add-end Inv-loop μ-loop
 add-end c = omega (arith, c .before .before .before .before .before .pre .lent .all)
 
 loop-holds : tie.Need-loop-holds Inv-loop μ-loop
-loop-holds c = (record { forward = omega arith; reached = c .before .before .before .before .before .pre .reached; sound = λ k l m. absurd (omega arith) }, search needs)
+loop-holds c = (record { forward = omega arith; cursor = c .before .before .before .before .before .pre .cursor; sound = λ k l m. absurd (omega arith) }, search needs)
 
 block-start-requires : tie.Need-block-start-requires Inv-loop μ-loop
 block-start-requires c κs =
@@ -37,7 +37,7 @@ stretch-requires : tie.Need-stretch-requires Inv-loop μ-loop
 stretch-requires c κs =
     let s = c .before .before .before .before .before .before .before .before in
     let l = c .before .before .loop in
-    (s .pre .listed, subst (λ (a : ℕ). Reached (s .args .rules .now) (s .args .live) a (l .here)) (sym (c .block-start .ensures)) (l .inv .0 .reached))
+    (s .pre .listed, subst (λ (a : ℕ). CursorAt (s .args .rules .now) (s .args .used) a (l .here)) (sym (c .block-start .ensures)) (l .inv .0 .cursor))
 
 clean-run-requires : tie.Need-clean-run-requires Inv-loop μ-loop
 clean-run-requires c κs = omega (arith, c .stretch .ensures .within, c .before .before .before .before .before .before .before .before .before .pre .lent .all)
@@ -72,7 +72,7 @@ pass-requires c κs =
     let same : c .before .before .before .before .before .block-start .result + blockSize * c .before .before .before .before .stretch .result ≡ c .block-start2 .result = omega (arith, c .before .before .before .before .before .block-start .ensures, c .block-start2 .ensures) in (
       s .pre .listed,
       (
-        subst (λ (a : ℕ). Reached (s .args .rules .now) (s .args .live) a (c .before .before .before .before .before .before .before .loop .here)) same (c .before .before .before .before .stretch .ensures .reached),
+        subst (λ (a : ℕ). CursorAt (s .args .rules .now) (s .args .used) a (c .before .before .before .before .before .before .before .loop .here)) same (c .before .before .before .before .stretch .ensures .cursor),
         (omega (arith, c .block-start2 .ensures, aligned (s .pre .sized .territory)), omega (arith, c .block-start2 .ensures, block-start-requires-2 (c .before) tt)),
       ),
     )

@@ -13,10 +13,10 @@ use Rattle.rules.proofs.blocks.pass.Statement.{statement}
 use Rattle.rules.proofs.blocks.pass.Tie as tie
 
 abbrev Inv-loop : tie.InvT-loop
-Inv-loop rules live at start i₀ opened₀ i opened = Passing rules live start at i opened
+Inv-loop rules used at start i₀ opened₀ i opened = Passing rules used start at i opened
 
 abbrev μ-loop : tie.MeasureT-loop
-μ-loop rules live at start i₀ opened₀ i opened = live - i
+μ-loop rules used at start i₀ opened₀ i opened = used - i
 
 loop-holds : tie.Need-loop-holds Inv-loop μ-loop
 loop-holds c = passing-start _ _ _ _ (c .before .pre .1 .0)
@@ -36,8 +36,8 @@ loop-again : tie.Need-loop-again Inv-loop μ-loop
 loop-again c =
     let s = c .before .before .before .before .before .before .before .args in
     let here = c .before .before .before .before .before .loop in
-    subst (Passing (s .rules .now) (s .live) (s .start) (s .at) (here .i + 1)) (ap (λ (l : ℕ). here .opened || ltb width l) (sym (c .length .ensures)))
-    (passing-more (s .rules .now) (s .live) (s .start) (s .at) (here .i) (here .opened) (here .inv) (omega arith) (omega arith))
+    subst (Passing (s .rules .now) (s .used) (s .start) (s .at) (here .i + 1)) (ap (λ (l : ℕ). here .opened || ltb width l) (sym (c .length .ensures)))
+    (passing-more (s .rules .now) (s .used) (s .start) (s .at) (here .i) (here .opened) (here .inv) (omega arith) (omega arith))
 
 returns-2 : tie.Need-returns-2 Inv-loop μ-loop
 returns-2 c =

@@ -1,4 +1,4 @@
--- `form::rules_in_order` meets its contract. The invariant is `Counted`: the first i words are rules in order, and `low` is just above
+-- `form::rules_in_order` meets its contract. The invariant is `OrderedTo`: the first i words are rules in order, and `low` is just above
 -- their keys. Assumes nothing.
 use mathlib.Core.Path.{sym, _∙_}
 use Prim.Native.Nat.{ℕ, _-_}
@@ -8,18 +8,18 @@ use borrow.Author.Needs.{needs}
 use borrow.Author.Tests.{not-true, not-false}
 use Rattle.ground.proofs.Tests.{says, denies}
 use Rattle.rules.proofs.Words.{word-room}
-use Rattle.rules.proofs.Counts.{Counted, counted-none, next?, counted-more, counted-stop, counted-all}
+use Rattle.rules.proofs.Counts.{OrderedTo, ordered-none, next?, ordered-more, counted-stop, counted-all}
 use Rattle.rules.proofs.form.rules_in_order.Statement.{statement}
 use Rattle.rules.proofs.form.rules_in_order.Tie as tie
 
 abbrev Inv-loop : tie.InvT-loop
-Inv-loop rules territory i₀ low₀ i low = Counted territory rules i low
+Inv-loop rules territory i₀ low₀ i low = OrderedTo territory rules i low
 
 abbrev μ-loop : tie.MeasureT-loop
 μ-loop rules territory i₀ low₀ i low = length rules - i
 
 loop-holds : tie.Need-loop-holds Inv-loop μ-loop
-loop-holds c = counted-none _ _
+loop-holds c = ordered-none _ _
 
 returns : tie.Need-returns Inv-loop μ-loop
 returns c =
@@ -35,7 +35,7 @@ add-low c =
 loop-again : tie.Need-loop-again Inv-loop μ-loop
 loop-again c =
     let inv = c .before .before .before .before .before .loop .inv in
-    counted-more inv (omega arith) (says (next? inv) (sym (c .before .before .is-next .ensures) ∙ not-false _ (c .before .if1 .left))) (omega arith)
+    ordered-more inv (omega arith) (says (next? inv) (sym (c .before .before .is-next .ensures) ∙ not-false _ (c .before .if1 .left))) (omega arith)
 
 returns-2 : tie.Need-returns-2 Inv-loop μ-loop
 returns-2 c = counted-all (c .before .loop .inv) (c .loop-test .left)

@@ -10,10 +10,10 @@ use Rattle.rules.proofs.list.insert_at.Statement.{statement}
 use Rattle.rules.proofs.list.insert_at.Tie as tie
 
 abbrev Inv-loop : tie.InvT-loop
-Inv-loop rules₀ live at word i₀ rules i = Raised rules₀ live at rules i
+Inv-loop rules₀ used at word i₀ rules i = Raised rules₀ used at rules i
 
 abbrev μ-loop : tie.MeasureT-loop
-μ-loop rules₀ live at word i₀ rules i = i
+μ-loop rules₀ used at word i₀ rules i = i
 
 loop-holds : tie.Need-loop-holds Inv-loop μ-loop
 loop-holds c = raised-none _ _ _ (c .pre .0)

@@ -9,10 +9,10 @@ use Rattle.rules.proofs.list.position.Statement.{statement}
 use Rattle.rules.proofs.list.position.Tie as tie
 
 abbrev Inv-loop : tie.InvT-loop
-Inv-loop rules live key low₀ high₀ low high = Bracket rules live key low high
+Inv-loop rules used key low₀ high₀ low high = Bracket rules used key low high
 
 abbrev μ-loop : tie.MeasureT-loop
-μ-loop rules live key low₀ high₀ low high = high - low
+μ-loop rules used key low₀ high₀ low high = high - low
 
 loop-holds : tie.Need-loop-holds Inv-loop μ-loop
 loop-holds c = bracket-start _ _ _

@@ -39,7 +39,7 @@ returns-2 c =
     let test = at .before .before in
     let s = test .before .before .before in
     at .insert-at .ensures
-    ∙ ap (insertedAt (s .args .rules .now) (s .args .live) (s .args .place .at)) (test .before .pack .ensures)
+    ∙ ap (insertedAt (s .args .rules .now) (s .args .used) (s .args .place .at)) (test .before .pack .ensures)
     ∙ put-new (s .pre .0) (s .pre .1 .1 .0 .formed) (s .pre .1 .0) (s .args .hop) (test .if1 .left) (s .pre .1 .1 .1 (test .if1 .left))
 
 pub put-spec : {M : Type 1} → statement M

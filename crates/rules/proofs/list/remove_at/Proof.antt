@@ -10,10 +10,10 @@ use Rattle.rules.proofs.list.remove_at.Statement.{statement}
 use Rattle.rules.proofs.list.remove_at.Tie as tie
 
 abbrev Inv-loop : tie.InvT-loop
-Inv-loop rules₀ live at i₀ rules i = Lowered rules₀ live at rules i
+Inv-loop rules₀ used at i₀ rules i = Lowered rules₀ used at rules i
 
 abbrev μ-loop : tie.MeasureT-loop
-μ-loop rules₀ live at i₀ rules i = live - i
+μ-loop rules₀ used at i₀ rules i = used - i
 
 loop-holds : tie.Need-loop-holds Inv-loop μ-loop
 loop-holds c = lowered-none _ _ _ (c .pre .0)

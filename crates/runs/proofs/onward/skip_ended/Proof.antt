@@ -5,18 +5,17 @@ use Prim.Native.Nat.{_-_}
 use native.Mathlib.Omega.{arith}
 use Rattle.ground.proofs.Tests.{denies}
 use Rattle.prefix.specs.declared.Prefix.{Prefix}
-use Rattle.prefix.specs.Prefixes.{contains}
-use Rattle.prefix.proofs.Prefixes.{contains?}
+use Rattle.prefix.proofs.Prefixes.{contains?, contains-of}
 use Rattle.rules.proofs.Indices.{listed-within, listed-short}
 use Rattle.runs.proofs.Covered.{Skipping, skip-start, skip-met, skip-more, skip-later, skip-done}
 use Rattle.runs.proofs.onward.skip_ended.Statement.{statement}
 use Rattle.runs.proofs.onward.skip_ended.Tie as tie
 
 abbrev Inv-loop : tie.InvT-loop
-Inv-loop rules live from address i₀ i = Skipping rules live address from i
+Inv-loop rules used from address i₀ i = Skipping rules used address from i
 
 abbrev μ-loop : tie.MeasureT-loop
-μ-loop rules live from address i₀ i = live - i
+μ-loop rules used from address i₀ i = used - i
 
 loop-holds : tie.Need-loop-holds Inv-loop μ-loop
 loop-holds c = skip-start (c .before .pre .1)
@@ -55,7 +54,7 @@ loop-again c =
     let same = c .before .before .before .before .prefix .ensures in
     skip-more (s .pre .0) (c .before .before .before .before .before .before .before .loop .inv) (omega arith)
     (omega (arith, ap (λ (p : Prefix). p .address) same))
-    (denies (contains? _ _) (sym (ap (λ (p : Prefix). contains p (s .args .address)) same) ∙ sym (c .before .contains .ensures) ∙ c .if2 .left))
+    (denies (contains? _ _) (sym (contains-of {b = s .args .address} same (omega arith)) ∙ sym (c .before .contains .ensures) ∙ c .if2 .left))
 
 returns-3 : tie.Need-returns-3 Inv-loop μ-loop
 returns-3 c = skip-done (c .before .before .before .pre .0) (c .before .loop .inv) (λ k low high. absurd (omega arith))

@@ -9,16 +9,16 @@ use Rattle.tables.proofs.Opening.{block-in, run-in-segment, opened-and-
 use Rattle.tables.proofs.fill.open_and_paint.Statement.{statement}
 use Rattle.tables.proofs.fill.open_and_paint.Tie as tie
 
-abbrev entry : tie.After-run-of → tie.Start
+abbrev entry : tie.After-prefix-cells → tie.Start
 entry c = c .before .before .before .before .before .before .before
 
 -- from where the segment is filled to where the prefix's run is known
-abbrev at-run : tie.After-point-to → tie.After-run-of
+abbrev at-run : tie.After-point-to → tie.After-prefix-cells
 at-run c = c .before .before .before .before .before
 
 -- the prefix's run in the segment
-run : (c : tie.After-run-of) → InSegment (c .before .segment-start .result) (c .run-of .result .from) (c .run-of .result .to) (now (entry c .args .long))
-run c = run-in-segment (entry c .pre .0) (entry c .pre .1) (c .before .segment-start .ensures) (c .run-of .ensures)
+run : (c : tie.After-prefix-cells) → InSegment (c .before .segment-start .result) (c .prefix-cells .result .from) (c .prefix-cells .result .to) (now (entry c .args .long))
+run c = run-in-segment (entry c .pre .0) (entry c .pre .1) (c .before .segment-start .ensures) (c .prefix-cells .ensures)
 
 slice-read-cell : tie.Need-slice-read-cell
 slice-read-cell c =
@@ -40,7 +40,7 @@ returns : tie.Need-returns
 returns c =
     let k = at-run c in
     let s = entry k in
-    opened-and-changed (s .pre .0) (s .pre .1) (k .before .segment-start .ensures) (k .run-of .ensures) _ (λ a. k .before .before .paint-cell .ensures)
+    opened-and-changed (s .pre .0) (s .pre .1) (k .before .segment-start .ensures) (k .prefix-cells .ensures) _ (λ a. k .before .before .paint-cell .ensures)
     (omega arith) (c .point-to .ensures) (omega arith) (c .before .before .before .fill-segment .ensures)
 
 pub open-and-paint-spec : {M : Type 1} → statement M

@@ -56,8 +56,8 @@ slice-read-segment c = let s = start (c .before) in omega (arith, block-lent (s 
 segment-requires : tie.Need-segment-requires
 segment-requires c κs = omega (arith, points (open-block (c .before)) (from (start (c .before))))
 
-run-of-requires : tie.Need-run-of-requires
-run-of-requires c κs =
+prefix-cells-requires : tie.Need-prefix-cells-requires
+prefix-cells-requires c κs =
     let k = c .before .before in
     let lent = owns (open-block k) (from (start k)) .lent in
     (omega (arith, c .segment .ensures, open-block k .ready .sized .few), (omega (arith, k .if1 .left), open-block k .ready .formed .short))
@@ -66,14 +66,14 @@ paint-run-requires : tie.Need-paint-run-requires
 paint-run-requires c κs =
     let at-segment = c .before .before in
     let k = at-segment .before .before in
-    run-within (open-block k) (from (start k)) (at-segment .segment .ensures) (c .before .run-of .ensures)
+    run-within (open-block k) (from (start k)) (at-segment .segment .ensures) (c .before .prefix-cells .ensures)
 
 returns-2 : tie.Need-returns-2
 returns-2 c =
     let at-run = c .before .before in
     let at-segment = at-run .before .before .before in
     let k = at-segment .before .before in
-    run-repainted (open-block k) (from (start k)) (at-segment .segment .ensures) (at-run .before .before .run-of .ensures) _ (at-run .paint-run .ensures)
+    run-repainted (open-block k) (from (start k)) (at-segment .segment .ensures) (at-run .before .before .prefix-cells .ensures) _ (at-run .paint-run .ensures)
 
 pub paint-spec : {M : Type 1} → statement M
 paint-spec =
@@ -87,7 +87,7 @@ paint-spec =
     mul-segment
     slice-read-segment
     segment-requires
-    run-of-requires
+    prefix-cells-requires
     paint-run-requires
     (λ c. search needs)
     returns-2)

@@ -54,7 +54,7 @@ returns c =
     let k = run .before .before in
     let s = k .before .before .before .before .before .before in
     unpainted-closed (s .pre .0) (routes (s .args .rules .now)) (own-block s) (k .before .block-start .ensures) (sym (closing k) ∙ run .before .if1 .taken)
-    (run .longest .ensures .is) (done .close .ensures)
+    (done .close .ensures) (omega (arith, run .longest .ensures .is))
 
 unpaint-requires : tie.Need-unpaint-requires
 unpaint-requires c κs = let s = c .before .before .before .before .before .before .before .before .before .before .pre in (s .0, (s .1 .1, s .1 .0))

@@ -1,22 +1,22 @@
--- `bulk::settle_all` meets its contract. The loop's invariant: the answers before `done` are settled. Assumes nothing.
+-- `bulk::by_long_all` meets its contract. The loop's invariant: the answers before `done` are those by the long table. Assumes nothing.
 use mathlib.Core.Path.{_≡_, sym, subst}
 use mathlib.Core.List.{List}
 use Prim.Native.Nat.{ℕ, _-_}
 use native.Mathlib.Omega.{arith}
 use lib.ListN.{getD}
 use borrow.Author.Needs.{needs}
-use Rattle.bulk.specs.inner.Passes.{settled}
+use Rattle.bulk.specs.inner.Passes.{byLong}
 use Rattle.ground.proofs.Lists.{Passed, pass-none, pass-more, pass-all}
-use Rattle.bulk.proofs.settle_all.Statement.{statement}
-use Rattle.bulk.proofs.settle_all.Tie as tie
+use Rattle.bulk.proofs.by_long_all.Statement.{statement}
+use Rattle.bulk.proofs.by_long_all.Tie as tie
 
 abbrev Inv-loop : tie.InvT-loop
-Inv-loop long addresses answers₀ count done₀ answers done = Passed (λ j x. settled long (getD addresses j 0) x) answers₀ done answers
+Inv-loop long addresses answers₀ count done₀ answers done = Passed (λ j x. byLong long (getD addresses j 0) x) answers₀ done answers
 
 abbrev μ-loop : tie.MeasureT-loop
 μ-loop long addresses answers₀ count done₀ answers done = count - done
 
--- before the first answer none is settled
+-- before the first answer there is none
 starts : {f : ℕ → ℕ → ℕ} {xs : List ℕ} {k : ℕ} → k ≡ 0 → Passed f xs k xs
 starts {f} {xs} e = subst (λ (k : ℕ). Passed f xs k xs) (sym e) pass-none
 
@@ -24,13 +24,13 @@ loop-holds : tie.Need-loop-holds Inv-loop μ-loop
 loop-holds c = starts (omega arith)
 
 loop-again : tie.Need-loop-again Inv-loop μ-loop
-loop-again c = pass-more (c .before .before .before .before .loop .inv) (c .settle .ensures)
+loop-again c = pass-more (c .before .before .before .before .loop .inv) (c .by-long .ensures)
 
 returns : tie.Need-returns Inv-loop μ-loop
 returns c = pass-all (c .before .loop .inv) (omega arith)
 
-pub settle-all-spec : {M : Type 1} → statement M
-settle-all-spec =
+pub by-long-all-spec : {M : Type 1} → statement M
+by-long-all-spec =
     tie.close
     (tie.spec
     Inv-loop
