@@ -14,17 +14,11 @@ use Rattle.prefix.specs.Prefixes.{WellFormed}
 use Rattle.prefix.specs.Routes.{Route}
 use Rattle.rules.specs.Words.{routeOf, keyOf}
 use Rattle.rules.specs.Rules.{routes}
-use Rattle.rules.specs.inner.Places.{Listed, prefixAt, keyAt, PositionIs, PlaceIs}
+use Rattle.rules.specs.inner.Places.{Listed, prefixAt, keyAt, PositionIs, Bracket, PlaceIs}
 use Rattle.rules.proofs.Words.{key-same}
 use Rattle.rules.proofs.Indices.{routes-index, index-routes, listed-short, listed-order, IsLive, isLive?}
 
 -- ---- low and high bracket the answer
-
-pub record Bracket (ws : List ℕ) (n k low high : ℕ) : Type 0 where
-  pub low-le : low ≤ high
-  pub high-le : high ≤ n
-  pub below : (i : ℕ) → i < low → keyAt ws i < k
-  pub above : (i : ℕ) → high ≤ i → i < n → k ≤ keyAt ws i
 
 pub bracket-start : (ws : List ℕ) (n k : ℕ) → Bracket ws n k 0 n
 bracket-start ws n k = record {

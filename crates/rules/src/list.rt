@@ -7,7 +7,7 @@ ghost use Rattle.prefix.specs.Prefixes.{WellFormed};
 ghost use Rattle.prefix.specs.Routes.{IsRoute, with-route, without};
 ghost use Rattle.rules.specs.Words.{routeBy};
 ghost use Rattle.rules.specs.Rules.{routes, wordsOf};
-ghost use Rattle.rules.specs.inner.Places.{Listed, PositionIs, PlaceIs, insertedAt, removedAt};
+ghost use Rattle.rules.specs.inner.Places.{Listed, Bracket, PositionIs, PlaceIs, insertedAt, removedAt};
 use crate::word::Rule;
 use prefix::Prefix;
 
@@ -17,13 +17,15 @@ pub struct Place {
     pub found: bool,
 }
 
-// The first index among the live words whose key is at least `key`, or their number. The range is halved at each turn.
-pub fn position(rules: &[u64], used: usize, key: u64) -> usize
+// The first index among the live words whose key is at least `key`, or their number, known to be in from..=to. The range is halved at
+// each turn.
+fn between(rules: &[u64], used: usize, key: u64, from: usize, to: usize) -> usize
     requires { ⌜ Listed (now rules) used ⌝ }
+    requires { ⌜ Bracket (now rules) used key from to ⌝ }
     ensures { λ r. ⌜ PositionIs (now (rules .entry)) used key r ⌝ }
 {
-    let mut low = 0;
-    let mut high = used;
+    let mut low = from;
+    let mut high = to;
     while low < high {
         let middle = low + (high - low) / 2;
         if Rule::key(rules[middle]) < key {
@@ -33,6 +35,33 @@ pub fn position(rules: &[u64], used: usize, key: u64) -> usize
         }
     }
     low
+}
+
+// That index, of which nothing is known.
+pub fn position(rules: &[u64], used: usize, key: u64) -> usize
+    requires { ⌜ Listed (now rules) used ⌝ }
+    ensures { λ r. ⌜ PositionIs (now (rules .entry)) used key r ⌝ }
+{
+    between(rules, used, key, 0, used)
+}
+
+// That index, known to be `from` or before, and mostly not far: looked for backwards from there in growing strides.
+pub fn position_before(rules: &[u64], used: usize, key: u64, from: usize) -> usize
+    requires { ⌜ Listed (now rules) used ⌝ }
+    requires { ⌜ Bracket (now rules) used key 0 from ⌝ }
+    ensures { λ r. ⌜ PositionIs (now (rules .entry)) used key r ⌝ }
+{
+    let mut high = from;
+    let mut stride = 1;
+    while stride <= high {
+        let at = high - stride;
+        if Rule::key(rules[at]) < key {
+            return between(rules, used, key, at + 1, high);
+        }
+        high = at;
+        stride += stride;
+    }
+    between(rules, used, key, 0, high)
 }
 
 // The place of a prefix.

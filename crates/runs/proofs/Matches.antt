@@ -32,6 +32,10 @@ around-after {p} l a w h c le =
     let low = in-range w (nested q le c (around-contains l a) (own (around l a))) .0 in
     omega arith
 
+-- and a's own come in the order of their lengths
+pub around-order : (k l a : ℕ) → k ≤ l → l ≤ 32 → key (around k a) ≤ key (around l a)
+around-order k l a le h = around-after l a (around-formed k a (omega arith)) h (around-contains k a) le
+
 -- the first 0 bits of addresses agree
 pub top-none : (a : ℕ) → a < 2 ^ 32 → top 0 a ≡ 0
 unfolding top

@@ -4,7 +4,7 @@ use mathlib.Core.Path.{_≡_, refl, subst}
 use mathlib.Core.Logic.{_⊎_, inl, inr, ⊎-elim}
 use mathlib.Core.Bool.{true, false}
 use mathlib.Core.List.{List, List·Memᴰ as Mem}
-use Prim.Native.Nat.{ℕ, _-_, _^_, _≤_, _<_}
+use Prim.Native.Nat.{ℕ, _+_, _-_, _^_, _≤_, _<_}
 use native.Mathlib.Nat.{le-refl}
 use native.Mathlib.Omega.{arith}
 use lib.ListN.{getD}
@@ -17,15 +17,19 @@ use Rattle.prefix.proofs.Prefixes.{contains?}
 use Rattle.prefix.proofs.Order.{key}
 use Rattle.rules.specs.Words.{prefixOf, routeOf, keyOf}
 use Rattle.rules.specs.Rules.{routes}
-use Rattle.rules.specs.inner.Places.{Listed, prefixAt}
+use Rattle.rules.specs.inner.Places.{Listed, prefixAt, PositionIs, Bracket}
 use Rattle.rules.proofs.Words.{key-less}
 use Rattle.rules.proofs.Indices.{routes-index, index-routes, listed-short, keys-rise}
 use Rattle.runs.specs.inner.Steps.{around, lastWord, CountUpTo, matchOrNone, SharedIs, ClimbIs, NextIs}
-use Rattle.runs.proofs.Matches.{UpTo, LastUpTo, nothing, found, climbs, some-length}
+use Rattle.runs.proofs.Matches.{UpTo, LastUpTo, around-order, nothing, found, climbs, some-length}
 
 -- the order of words is that of (address, length)
 key-le : (p q : Prefix) → p .length ≤ 32 → q .length ≤ 32 → keyOf p ≤ keyOf q → key p ≤ key q
 key-le p q h k l = by-lt (key q) (key p) (λ m. absurd (omega (arith, key-less q p k h .1 m))) (λ m. m)
+
+-- the same position by an equal key
+pub at-key : {ws : List ℕ} {n k m at : ℕ} → PositionIs ws n k at → k ≡ m → PositionIs ws n m at
+at-key {ws} {n} {at = at} q e = subst (λ (k : ℕ). PositionIs ws n k at) e q
 
 -- a fact of each route, by the index of its word
 pub each-route : {ws : List ℕ} {n : ℕ} (P : Route → Type 0) → Listed ws n → ((k : ℕ) → k < n → P (routeOf (getD ws k 0))) → (r : Route) → Mem r (routes ws) → P r
@@ -108,6 +112,21 @@ module _ {ws : List ℕ} {n a l i : ℕ} (s : Listed ws n) (on : Climbing ws n a
         found = λ h. found (s .all) (on .short) (on .upTo) (last-up-to a l s (on .short) (on .count) h)
             (⊎-elim (λ z. absurd (omega arith)) (λ c. c) (says (matchOrNone? ws a i) t));
       }
+
+  -- the words that are past a's prefix of length l are past each shorter one
+  pub climb-back : (m : ℕ) → m ≤ l → Bracket ws n (keyOf (around m a) + 1) 0 i
+  climb-back m le = record {
+    low-le = omega arith;
+    high-le = on .count .within;
+    below = λ k h. absurd (omega arith);
+    above = λ k ge h. omega (arith, on .count .above k ge h, lower);
+  }
+    where
+      lower : keyOf (around m a) ≤ keyOf (around l a)
+      lower =
+          by-lt (keyOf (around l a)) (keyOf (around m a))
+          (λ h. absurd (omega (arith, key-less (around l a) (around m a) (on .short) (omega (arith, on .short)) .0 h, around-order m l a le (on .short))))
+          (λ h. h)
 
   module _ (t : matchOrNone ws a i ≡ false) where
     pub climb-some : 0 < i

@@ -1,13 +1,14 @@
 // The longest match of an address in the rule words, with the run of addresses that share it: by a search for the address itself, and a
-// step up for each rule on the way that ends before the address, so that no pass over the words is needed.
+// step up for each rule on the way that ends before the address, each looking backwards from the last, so that no pass over the words is
+// needed.
 ghost use mathlib.Core.Path.{_≡_};
-ghost use Prim.Native.Nat.{_<_, _≤_};
+ghost use Prim.Native.Nat.{_+_, _<_, _≤_};
 ghost use Rattle.prefix.specs.Routes.{IsRoute};
-ghost use Rattle.rules.specs.Words.{routeOf};
+ghost use Rattle.rules.specs.Words.{routeOf, keyOf};
 ghost use Rattle.rules.specs.Rules.{routes};
-ghost use Rattle.rules.specs.inner.Places.{Listed};
+ghost use Rattle.rules.specs.inner.Places.{Listed, Bracket};
 ghost use Rattle.runs.specs.inner.Kept.{RunIs};
-ghost use Rattle.runs.specs.inner.Steps.{CountUpTo, matchOrNone, SharedIs, ClimbIs, NextIs, LowerIs, MatchRunIs};
+ghost use Rattle.runs.specs.inner.Steps.{around, CountUpTo, matchOrNone, SharedIs, ClimbIs, NextIs, LowerIs, MatchRunIs};
 use cells::cell::Cell;
 use prefix::Prefix;
 use prefix::span_of;
@@ -27,17 +28,34 @@ pub struct Run {
     pub at: usize,
 }
 
-// How many of the live words are up to the prefix of this length around the address.
-fn up_to(rules: &[u64], used: usize, address: u32, length: u32) -> usize
-    requires { ⌜ Listed (now rules) used ⌝ }
+// The lowest key past the prefix of this length around the address.
+fn key_past(address: u32, length: u32) -> u64
     requires { ⌜ length ≤ 32 ⌝ }
-    ensures { λ r. ⌜ CountUpTo (now (rules .entry)) used length address r ⌝ }
+    ensures { λ r. ⌜ r ≡ keyOf (around length address) + 1 ⌝ }
 {
     let around = Prefix {
         address: prefix::cleared(address, length),
         length,
     };
-    rules::list::position(rules, used, Rule::key_of(around) + 1)
+    Rule::key_of(around) + 1
+}
+
+// How many of the live words are up to the address itself.
+fn up_to(rules: &[u64], used: usize, address: u32) -> usize
+    requires { ⌜ Listed (now rules) used ⌝ }
+    ensures { λ r. ⌜ CountUpTo (now (rules .entry)) used 32 address r ⌝ }
+{
+    rules::list::position(rules, used, key_past(address, 32))
+}
+
+// How many of the first `from` live words are up to the prefix of this length around the address; the others are past it.
+fn up_to_before(rules: &[u64], used: usize, address: u32, length: u32, from: usize) -> usize
+    requires { ⌜ Listed (now rules) used ⌝ }
+    requires { ⌜ length ≤ 32 ⌝ }
+    requires { ⌜ Bracket (now rules) used (keyOf (around length address) + 1) 0 from ⌝ }
+    ensures { λ r. ⌜ CountUpTo (now (rules .entry)) used length address r ⌝ }
+{
+    rules::list::position_before(rules, used, key_past(address, length), from)
 }
 
 // How many leading bits the two addresses share, of fewer than `limit`.
@@ -77,7 +95,7 @@ fn climb(rules: &[u64], used: usize, address: u32, first: usize) -> usize
     let mut i = first;
     while !is_match_or_none(rules, used, address, i) {
         length = shared(address, Rule::address(rules[i - 1]), length);
-        i = up_to(rules, used, address, length);
+        i = up_to_before(rules, used, address, length, i);
     }
     i
 }
@@ -124,7 +142,7 @@ pub fn longest(rules: &[u64], used: usize, address: u32) -> Run
     requires { ⌜ Listed (now rules) used ⌝ }
     ensures { λ r. ⌜ RunIs (now (rules .entry)) used address r ⌝ }
 {
-    let first = up_to(rules, used, address, 32);
+    let first = up_to(rules, used, address);
     let limit = next(rules, used, address, first);
     let i = climb(rules, used, address, first);
     if i == 0 {

@@ -30,6 +30,13 @@ pub record PositionIs (ws : List ℕ) (n k at : ℕ) : Type 0 where
   pub below : (i : ℕ) → i < at → keyAt ws i < k
   pub above : (i : ℕ) → at ≤ i → i < n → k ≤ keyAt ws i
 
+-- and low and high bracket it
+pub record Bracket (ws : List ℕ) (n k low high : ℕ) : Type 0 where
+  pub low-le : low ≤ high
+  pub high-le : high ≤ n
+  pub below : (i : ℕ) → i < low → keyAt ws i < k
+  pub above : (i : ℕ) → high ≤ i → i < n → k ≤ keyAt ws i
+
 -- at is where the prefix p stands among the first n words, or would stand, and found says whether it is live
 pub record PlaceIs (ws : List ℕ) (n : ℕ) (p : Prefix) (at : ℕ) (found : Bool) : Type 0 where
   pub position : PositionIs ws n (keyOf p) at

@@ -7,7 +7,7 @@ use native.Mathlib.Omega.{arith}
 use borrow.Author.Tests.{not-true, not-false}
 use Rattle.rules.proofs.Indices.{listed-within}
 use Rattle.runs.specs.inner.Steps.{matchOrNone, SharedIs}
-use Rattle.runs.proofs.Places.{Climbing, climb-start, climb-done, climb-some, climb-length, climb-more}
+use Rattle.runs.proofs.Places.{Climbing, climb-start, climb-done, climb-some, climb-length, climb-back, climb-more}
 use Rattle.runs.proofs.climb.Statement.{statement}
 use Rattle.runs.proofs.climb.Tie as tie
 
@@ -17,7 +17,7 @@ Inv-loop rules used address first length₀ i₀ length i = Climbing rules used 
 abbrev μ-loop : tie.MeasureT-loop
 μ-loop rules used address first length₀ i₀ length i = length
 
--- a turn starts where the search is not settled
+-- a turn starts where the last word does not contain the address
 turns : (c : tie.Then1 Inv-loop μ-loop) → let s = c .before .before .before .before .args in matchOrNone (s .rules .now) (s .address) (c .before .before .loop .i) ≡ false
 turns c = sym (c .before .is-match-or-none .ensures) ∙ not-true _ (c .if1 .taken)
 
@@ -46,8 +46,16 @@ shared-requires c κs =
     let inv = c .before .before .before .before .loop .inv in
     (climb-length (s .pre .0) inv (turns (c .before .before)) (s .fits .address .fits), inv .short)
 
-up-to-requires : tie.Need-up-to-requires Inv-loop μ-loop
-up-to-requires c κs = (c .before .before .before .before .before .before .before .pre .0, omega (arith, c .shared .ensures .below, c .before .before .before .before .before .loop .inv .short))
+up-to-before-requires : tie.Need-up-to-before-requires Inv-loop μ-loop
+up-to-before-requires c κs =
+    let at-loop = c .before .before .before .before .before in
+    let s = at-loop .before .before .pre .0 in (
+      s,
+      (
+        omega (arith, c .shared .ensures .below, at-loop .loop .inv .short),
+        climb-back s (at-loop .loop .inv) (c .shared .result) (omega (arith, c .shared .ensures .below)),
+      ),
+    )
 
 loop-less : tie.Need-loop-less Inv-loop μ-loop
 loop-less c = c .before .shared .ensures .below
@@ -58,7 +66,7 @@ loop-again c =
     let at = c .before .before .before .before .before .before .loop in
     climb-more (s .pre .0) (at .inv) (turns (c .before .before .before .before))
     (subst (λ (b : ℕ). SharedIs (s .args .address) b (at .length) (c .before .shared .result)) (c .before .before .address .ensures) (c .before .shared .ensures))
-    (c .up-to .ensures)
+    (c .up-to-before .ensures)
 
 returns : tie.Need-returns Inv-loop μ-loop
 returns c =
@@ -77,7 +85,7 @@ climb-spec =
     shared-slice-read-address
     address-requires
     shared-requires
-    up-to-requires
+    up-to-before-requires
     loop-less
     loop-again
     returns)
