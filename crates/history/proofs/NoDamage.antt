@@ -19,10 +19,10 @@ use Rattle.cells.specs.Cells.{segmentOf, cellOf}
 use Rattle.rules.specs.Rules.{routes, isLive, Formed}
 use Rattle.rules.proofs.RouteWords.{words-formed}
 use Rattle.cells.specs.Memory.{Lent, isLent, IsLent, noZero, needsSegment}
-use Rattle.refusals.specs.Damage.{undamaged}
+use Rattle.damage.specs.Damage.{undamaged}
 use Rattle.refusals.specs.Codes.{tested, Call, announces, withdraws, re-homes, unlessLive, unlessRoom, code, change, own}
 use Rattle.prefix.proofs.Spans.{blocks-inside}
-use Rattle.refusals.proofs.Soundness.{Clean, SegmentSound, BlockSound, undamaged?}
+use Rattle.damage.proofs.Soundness.{Clean, SegmentSound, BlockSound, undamaged?}
 use Rattle.updates.specs.Calls.{outcome, step}
 use Rattle.updates.proofs.Outcomes.{by-outcome}
 use Rattle.history.specs.History.{History, memory, report, live}

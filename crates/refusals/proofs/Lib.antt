@@ -1,5 +1,3 @@
--- Laws of damage and of the numbers of refusal; the crates above cite them.
-pub mod Soundness
-pub mod Turns
+-- Laws of the numbers of refusal; the crates above cite them.
 pub mod FreeWords
 pub mod Refusing

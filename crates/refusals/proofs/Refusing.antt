@@ -24,11 +24,11 @@ use Rattle.cells.proofs.FreeSegments.{needsSegment?}
 use Rattle.rules.specs.Rules.{routes, isLive}
 use Rattle.rules.proofs.Indices.{isLive?}
 use Rattle.refusals.specs.declared.codes.Checked.{Checked}
-use Rattle.refusals.specs.Damage.{undamaged}
+use Rattle.damage.specs.Damage.{undamaged}
 use Rattle.refusals.specs.Codes.{Call, change, tested, unlessLive, unlessRoom, own, code}
 use Rattle.refusals.specs.inner.Checks.{Learnt, unlessDamaged, never, Asked}
 use Rattle.refusals.proofs.FreeWords.{all-live}
-use Rattle.refusals.proofs.Soundness.{BlockSound, Undamaged, undamaged?}
+use Rattle.damage.proofs.Soundness.{BlockSound, Undamaged, undamaged?}
 
 -- ---- what a call knows where its number is 0
 

@@ -7,7 +7,7 @@ use Rattle.prefix.specs.Prefixes.{encloses}
 use Rattle.prefix.specs.Routes.{Route, Change, puts, takes, named, isChange}
 use Rattle.rules.specs.Rules.{routes, isLive}
 use Rattle.cells.specs.Memory.{Lent, isLent, noZero, needsSegment}
-use Rattle.refusals.specs.Damage.{undamaged}
+use Rattle.damage.specs.Damage.{undamaged}
 
 -- an update, as it is asked for
 pub data Call : Type 0 where

@@ -1,4 +1,3 @@
--- When an update is refused; in `inner`, what serves loops and inner functions.
-pub mod Damage
+-- When an update is refused; in `inner`, what serves inner functions.
 pub mod Codes
 pub mod inner

@@ -1,3 +1,2 @@
--- What the parts of the walk along blocks and rules answer, and what an update is told with its number.
-pub mod Walk
+-- What an update is told with its number.
 pub mod Checks

@@ -1,3 +1,2 @@
-// When an update is refused: damage, and the number that each update answers.
+// When an update is refused: the number that each update answers.
 pub mod codes;
-pub mod damage;

@@ -9,7 +9,7 @@ use lib.Dec.{ltb}
 use lib.ListN.{length, getD, length-map}
 use Rattle.prefix.specs.declared.Prefix.{Prefix}
 use Rattle.tables.proofs.Closing.{segment-stays, closed-after}
-use Rattle.refusals.proofs.Soundness.{true?}
+use Rattle.damage.proofs.Soundness.{true?}
 use Rattle.prefix.specs.Geometry.{blockOf, blockStart, width}
 use Rattle.prefix.specs.Price.{isOpen}
 use Rattle.cells.specs.Cells.{cellOf}

@@ -8,7 +8,7 @@ use Rattle.prefix.specs.Routes.{Change, named, isChange}
 use Rattle.rules.specs.inner.Places.{Listed, PlaceIs}
 use Rattle.cells.specs.Memory.{Tables, Lent, lowestFree, needsSegment}
 use Rattle.refusals.specs.declared.codes.Checked.{Checked}
-use Rattle.refusals.specs.Damage.{undamaged}
+use Rattle.damage.specs.Damage.{undamaged}
 use Rattle.refusals.specs.Codes.{Call, change, tested, unlessLive, code}
 
 -- the number is `answer`; with 0 come how many rules are live, the place of the prefix p among them, the blocks that it touches, whether a

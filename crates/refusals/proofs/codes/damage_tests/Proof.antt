@@ -12,9 +12,9 @@ use Rattle.rules.specs.Rules.{routes, Formed}
 use Rattle.rules.specs.inner.Places.{Listed}
 use Rattle.rules.proofs.FormTests.{formed?, formed-listed}
 use Rattle.refusals.specs.inner.Checks.{unlessDamaged}
-use Rattle.refusals.specs.inner.Walk.{soundRun, BlocksLent}
-use Rattle.refusals.proofs.Soundness.{soundRun?, undamaged?}
-use Rattle.refusals.proofs.Turns.{touched-lent}
+use Rattle.damage.specs.inner.Walk.{soundRun, BlocksLent}
+use Rattle.damage.proofs.Soundness.{soundRun?, undamaged?}
+use Rattle.damage.proofs.Turns.{touched-lent}
 use Rattle.refusals.proofs.Refusing.{by-damage, refused-is}
 use borrow.Author.Needs.{needs}
 use Rattle.refusals.proofs.codes.damage_tests.Statement.{statement}

@@ -1,14 +1,14 @@
--- `damage::clean_run` meets its contract. The invariant: `clean` says whether the first i cells of the run are. Assumes nothing.
+-- `clean_run` meets its contract. The invariant: `clean` says whether the first i cells of the run are. Assumes nothing.
 use mathlib.Core.Path.{_≡_, refl, sym, ap, ap₂, _∙_}
 use mathlib.Core.Bool.{_&&_}
 use Prim.Native.Nat.{_-_, _≤_}
 use native.Mathlib.Omega.{arith}
 use borrow.Author.Needs.{needs}
 use Rattle.ground.specs.Lists.{everyBelow}
-use Rattle.refusals.specs.inner.Walk.{cleanRun}
-use Rattle.refusals.proofs.Soundness.{clean-more}
-use Rattle.refusals.proofs.damage.clean_run.Statement.{statement}
-use Rattle.refusals.proofs.damage.clean_run.Tie as tie
+use Rattle.damage.specs.inner.Walk.{cleanRun}
+use Rattle.damage.proofs.Soundness.{clean-more}
+use Rattle.damage.proofs.clean_run.Statement.{statement}
+use Rattle.damage.proofs.clean_run.Tie as tie
 
 abbrev Inv-loop : tie.InvT-loop
 Inv-loop cells longest from count clean₀ i₀ clean i = (i ≤ count) × (clean ≡ cleanRun longest cells from i)

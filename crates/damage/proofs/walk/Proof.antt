@@ -1,4 +1,4 @@
--- `damage::walk` meets its contract. The invariant is `Walked`: the blocks before this one are sound, and the cursor stands at its start.
+-- `walk` meets its contract. The invariant is `Walked`: the blocks before this one are sound, and the cursor stands at its start.
 -- Assumes nothing.
 use mathlib.Core.Path.{_≡_, sym, subst}
 use Prim.Native.Nat.{ℕ, _+_, _-_, _*_, _≤_, _<_}
@@ -10,10 +10,10 @@ use Rattle.prefix.specs.Geometry.{width, blockSize}
 use Rattle.prefix.proofs.Spans.{aligned}
 use Rattle.cells.proofs.Lending.{few-firsts}
 use Rattle.rules.specs.inner.Blocks.{CursorAt}
-use Rattle.refusals.proofs.Soundness.{CleanRun, cleanRun?, soundBy?, soundRun?}
-use Rattle.refusals.proofs.Turns.{Walked, start-within, clean-run, sound-run, sound-here, walked-on}
-use Rattle.refusals.proofs.damage.walk.Statement.{statement}
-use Rattle.refusals.proofs.damage.walk.Tie as tie
+use Rattle.damage.proofs.Soundness.{CleanRun, cleanRun?, soundBy?, soundRun?}
+use Rattle.damage.proofs.Turns.{Walked, start-within, clean-run, sound-run, sound-here, walked-on}
+use Rattle.damage.proofs.walk.Statement.{statement}
+use Rattle.damage.proofs.walk.Tie as tie
 
 abbrev Inv-loop : tie.InvT-loop
 Inv-loop first long owners rules used territory at end block₀ here₀ block here =

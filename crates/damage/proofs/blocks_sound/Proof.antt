@@ -1,12 +1,12 @@
--- `damage::blocks_sound` meets its contract: the walk starts at the first block, with the cursor at that block's start. Assumes nothing.
+-- `blocks_sound` meets its contract: the walk starts at the first block, with the cursor at that block's start. Assumes nothing.
 use mathlib.Core.Path.{subst}
 use Prim.Native.Nat.{ℕ}
 use native.Mathlib.Omega.{arith}
 use Rattle.rules.specs.inner.Blocks.{CursorAt}
-use Rattle.refusals.proofs.Turns.{start-within}
+use Rattle.damage.proofs.Turns.{start-within}
 use borrow.Author.Needs.{needs}
-use Rattle.refusals.proofs.damage.blocks_sound.Statement.{statement}
-use Rattle.refusals.proofs.damage.blocks_sound.Tie as tie
+use Rattle.damage.proofs.blocks_sound.Statement.{statement}
+use Rattle.damage.proofs.blocks_sound.Tie as tie
 
 block-start-requires : tie.Need-block-start-requires
 block-start-requires c κs = let s = c .before .before .before .before in start-within (s .pre .0 .0) (omega (arith, s .good)) (s .args .blocks .from) (s .pre .0 .1 .first)

@@ -1,11 +1,11 @@
--- `damage::segment_sound` meets its contract: each test that fails is one that a sound segment passes. Assumes nothing.
+-- `segment_sound` meets its contract: each test that fails is one that a sound segment passes. Assumes nothing.
 use mathlib.Core.Path.{sym, _∙_}
 use native.Mathlib.Omega.{arith}
 use Rattle.ground.proofs.Tests.{iff?, stops, same-test}
-use Rattle.refusals.proofs.Soundness.{cleanRun?, segmentSound?}
+use Rattle.damage.proofs.Soundness.{cleanRun?, segmentSound?}
 use borrow.Author.Needs.{needs}
-use Rattle.refusals.proofs.damage.segment_sound.Statement.{statement}
-use Rattle.refusals.proofs.damage.segment_sound.Tie as tie
+use Rattle.damage.proofs.segment_sound.Statement.{statement}
+use Rattle.damage.proofs.segment_sound.Tie as tie
 
 returns : tie.Need-returns
 returns c = sym (stops (segmentSound? _ _ _) (λ h. omega (arith, h .lent)))

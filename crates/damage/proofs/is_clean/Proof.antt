@@ -1,14 +1,14 @@
--- `damage::is_clean` meets its contract: past the test of an empty cell, a cell is clean exactly if it is direct. Assumes nothing.
+-- `is_clean` meets its contract: past the test of an empty cell, a cell is clean exactly if it is direct. Assumes nothing.
 use mathlib.Core.Path.{sym, ap, _∙_}
 use mathlib.Core.Logic.{inl}
 use mathlib.Core.Bool.{Bool, _||_}
 use borrow.Author.Tests.{ne-eqb}
 use Rattle.ground.proofs.Tests.{passes}
 use Rattle.cells.specs.Cells.{isDirect}
-use Rattle.refusals.proofs.Soundness.{isClean?}
+use Rattle.damage.proofs.Soundness.{isClean?}
 use borrow.Author.Needs.{needs}
-use Rattle.refusals.proofs.damage.is_clean.Statement.{statement}
-use Rattle.refusals.proofs.damage.is_clean.Tie as tie
+use Rattle.damage.proofs.is_clean.Statement.{statement}
+use Rattle.damage.proofs.is_clean.Tie as tie
 
 returns : tie.Need-returns
 returns c = sym (passes (isClean? _ _) (inl (c .if1 .taken)))

@@ -22,8 +22,8 @@ use Rattle.cells.proofs.Direct.{Direct, isDirect?}
 use Rattle.rules.specs.Rules.{routes, Formed}
 use Rattle.rules.proofs.FormTests.{formed?}
 use Rattle.cells.specs.Memory.{Tables, Lent}
-use Rattle.refusals.specs.Damage.{isClean, segmentSound, soundBy, blockSound, blocksSound, undamaged}
-use Rattle.refusals.specs.inner.Walk.{cleanRun, soundRun}
+use Rattle.damage.specs.Damage.{isClean, segmentSound, soundBy, blockSound, blocksSound, undamaged}
+use Rattle.damage.specs.inner.Walk.{cleanRun, soundRun}
 
 -- ---- cells
 

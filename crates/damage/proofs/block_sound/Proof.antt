@@ -1,4 +1,4 @@
--- `damage::block_sound` meets its contract: the two cases of a block, each with its own test of whether it is open. Assumes nothing.
+-- `block_sound` meets its contract: the two cases of a block, each with its own test of whether it is open. Assumes nothing.
 use mathlib.Core.Path.{_≡_, sym, ap, _∙_}
 use mathlib.Core.Bool.{false, true≢false}
 use Prim.Native.Nat.{_≤_, _<_}
@@ -9,11 +9,11 @@ use borrow.Author.Tests.{not-true, not-false}
 use Rattle.ground.proofs.Tests.{leb?, iff?, stops, same-test, if-so, if-not}
 use Rattle.cells.specs.Cells.{pointerBit}
 use Rattle.cells.specs.Memory.{Tables, tables}
-use Rattle.refusals.specs.Damage.{segmentSound, soundBy}
-use Rattle.refusals.proofs.Soundness.{isClean?, segmentSound?, soundBy?}
+use Rattle.damage.specs.Damage.{segmentSound, soundBy}
+use Rattle.damage.proofs.Soundness.{isClean?, segmentSound?, soundBy?}
 use borrow.Author.Needs.{needs}
-use Rattle.refusals.proofs.damage.block_sound.Statement.{statement}
-use Rattle.refusals.proofs.damage.block_sound.Tie as tie
+use Rattle.damage.proofs.block_sound.Statement.{statement}
+use Rattle.damage.proofs.block_sound.Tie as tie
 
 -- the two cases
 other : (c : tie.Then1) → let s = c .before .before .before .before .before .before .args in getD (s .first .now) (s .block) 0 < pointerBit

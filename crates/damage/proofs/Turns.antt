@@ -19,8 +19,8 @@ use Rattle.cells.specs.Memory.{Tables, Sized}
 use Rattle.rules.specs.Rules.{routes}
 use Rattle.rules.specs.inner.Places.{Listed}
 use Rattle.rules.specs.inner.Blocks.{CursorAt, StretchIs, PassedIs}
-use Rattle.refusals.specs.inner.Walk.{BlocksLent}
-use Rattle.refusals.proofs.Soundness.{Clean, CleanRun, clean-below, SoundBy, BlockSound, SoundTo}
+use Rattle.damage.specs.inner.Walk.{BlocksLent}
+use Rattle.damage.proofs.Soundness.{Clean, CleanRun, clean-below, SoundBy, BlockSound, SoundTo}
 use Rattle.rules.proofs.Cursor.{cursor-between, open-between}
 
 -- a block that has a cell starts at an address

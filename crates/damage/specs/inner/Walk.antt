@@ -12,7 +12,7 @@ use Rattle.prefix.specs.Geometry.{blockStart}
 use Rattle.prefix.specs.Routes.{Route}
 use Rattle.rules.specs.inner.Places.{Listed}
 use Rattle.cells.specs.Memory.{Tables, Sized, Slice}
-use Rattle.refusals.specs.Damage.{isClean, blockSound}
+use Rattle.damage.specs.Damage.{isClean, blockSound}
 
 -- each of the cells from `from` on, `count` of them, is 0 or direct
 unfoldable pub cleanRun : ℕ → List ℕ → ℕ → ℕ → Bool

@@ -1,0 +1,3 @@
+-- Laws of damage; the crates above cite them.
+pub mod Soundness
+pub mod Turns

@@ -1,0 +1,2 @@
+-- What the parts of the walk along blocks and rules require and answer.
+pub mod Walk
