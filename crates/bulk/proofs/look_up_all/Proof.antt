@@ -45,9 +45,9 @@ fetch-requires c κs =
 
 returns-3 : tie.Need-returns-3
 returns-3 c =
-    let settling = c .before .before in
-    let judging = settling .before .before .before .before in
-    let fetching = judging .before .before .before .before in
+    let longs = c .before .before in
+    let firsts = longs .before .before .before .before in
+    let fetching = firsts .before .before .before .before in
     let placing = fetching .before .before .before .before in
     let passed = placing .before .before in
     let known = passed .before .before .before .before in
@@ -58,7 +58,7 @@ returns-3 c =
     answered (now (s .first)) (now (s .long)) (s .territory) (now (s .addresses)) (now (s .answers)) (l, e)
     (passes-all (now (s .first)) (now (s .long)) (s .territory) (now (s .addresses)) (now (s .answers)) l
     (omega (arith, start .good)) (λ i h. omega (arith, known .shared-slice-known3 .given i)) e
-    (placing .places .ensures) (fetching .fetch .ensures) (judging .by-first-all .ensures) (settling .by-long-all .ensures))
+    (placing .places .ensures) (fetching .fetch .ensures) (firsts .by-first-all .ensures) (longs .by-long-all .ensures))
 
 pub look-up-all-spec : {M : Type 1} → statement M
 look-up-all-spec =
