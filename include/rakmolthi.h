@@ -6,7 +6,7 @@
  *     if (rk_tables_clear(&t) != RK_OK) ..                     the memory lent has another size
  *     report = rk_tables_announce(&t, address, length, hop);   report.code, and how many cells changed
  *     number = rk_tables_look_up(&t, address);
- *     if (RK_CODE(number) == RK_OK) hop = RK_HOP(number);
+ *     if (RK_CODE(number) == RK_OK) hop = RK_HOP(number), length = RK_LENGTH(number);
  *
  * These are C and hand the fields on to rk_announce and so on, where it is said what a call answers, writes and refuses.
  *
@@ -27,8 +27,8 @@
  * The territory is the prefix base / base_length: base_length 0 to 24, and no bit of base set after it. All lent memory belongs to one
  * territory from rk_clear on.
  *
- * Answers. 0, RK_OK, is success. Any other number is a refusal, and a refused call writes nothing and answers hop 0, cells 0, an all-zero
- * update:
+ * Answers. 0, RK_OK, is success. Any other number is a refusal, and a refused call writes nothing and answers length 0, hop 0, cells 0, an
+ * all-zero update:
  *
  *    1  RK_WRONG_SIZES         base_length above 24, base has bits after it, or a lent size is not as above      every call on lent words
  *    2  RK_WRONG_NUMBERS       length above 32, address bits set after the length, or a hop outside 1 to 32,767  updates, cost line
@@ -108,9 +108,16 @@ enum rk_kind {
 #define RK_FIRST_CELLS(base_length) ((size_t)1 << RK_MOST_TERRITORY >> (base_length))
 #define RK_LONG_CELLS(segments) ((size_t)RK_BLOCK_CELLS * (segments))
 
-/* The parts of the number that rk_look_up answers. */
-#define RK_CODE(number) ((uint32_t)(number) >> 16)
+/*
+ * The parts of the number that rk_look_up answers, code * 2^22 + length * 2^16 + hop: 0 or a refusal, the length of the prefix that won,
+ * and its hop. With a refusal length and hop are 0; a route of length 0 has code 0.
+ */
+#define RK_CODE(number) ((uint32_t)(number) >> 22)
+#define RK_LENGTH(number) ((uint32_t)(number) >> 16 & 63)
 #define RK_HOP(number) ((uint32_t)(number) & 65535)
+
+/* An address cut to its first bits, 0 to 32 of them. The prefix that won is RK_CUT(address, RK_LENGTH(number)) / RK_LENGTH(number). */
+#define RK_CUT(address, length) ((uint32_t)(address) & ~(uint32_t)((uint64_t)UINT32_MAX >> (length)))
 
 /* What is lent for the tables, and the territory. The program fills it in, each field by its name; no call changes the fields. */
 typedef struct {
@@ -180,9 +187,10 @@ rk_report rk_re_home(uint32_t *first, size_t first_cells, uint32_t *long_table, 
                      uint32_t hop);
 
 /*
- * The hop of the longest live prefix that contains the address, as the one number code * 65,536 + hop; RK_CODE and RK_HOP take it apart.
- * The tables are passed as bytes, four to a cell, the lowest first, which is how rk_announce and the others leave them on a little-endian
- * machine; 1 also where a length is no multiple of 4. It reads one or two cells. Refusals 1, 3, 4, 8.
+ * The hop and the length of the longest live prefix that contains the address, as the one number code * 2^22 + length * 2^16 + hop, which
+ * RK_CODE, RK_LENGTH and RK_HOP take apart. The tables are passed as bytes, four to a cell, the lowest first, which is how rk_announce and
+ * the others leave them on a little-endian machine; 1 also where a table is no whole number of cells. It reads one or two cells. Refusals
+ * 1, 3, 4, 8.
  */
 uint32_t rk_look_up(const uint8_t *first, size_t first_bytes, const uint8_t *long_table, size_t long_bytes, uint32_t base,
                     uint32_t base_length, uint32_t address);
