@@ -3,7 +3,7 @@ use mathlib.Core.Path.{_≡_, sym, ap, _∙_}
 use mathlib.Core.List.{List, map}
 use Prim.Native.Nat.{ℕ, _%_, _^_, _<_}
 use native.Mathlib.Omega.{arith}
-use lib.Dec.{ltb, eqb}
+use lib.Dec.{ltb, eqb, lit≤}
 use mathlib.Core.Bool.{_&&_}
 use lib.ListN.{length, getD}
 use Rattle.ground.proofs.Lists.{pass-at, pass-then, pass-map}
@@ -70,7 +70,7 @@ by-both long a cell =
     by-test (leb? pointerBit cell)
     (λ p. ap (byLong long a) (cond-on _ _ (leb? pointerBit cell) p) ∙ cond-on _ _ (leb? pointerBit cell) p)
     (λ n. ap (byLong long a) (cond-off _ _ (leb? pointerBit cell) n)
-    ∙ cond-off _ _ (leb? pointerBit (packed (verdictOf width cell))) (no-pointer (told-verdict width cell))
+    ∙ cond-off _ _ (leb? pointerBit (packed (verdictOf width cell))) (no-pointer (told-verdict width cell (lit≤ tt)))
     ∙ sym (ap packed (decides long (a % blockSize) cell n)))
 
 module _ (first long : List ℕ) (t : Prefix) (a : ℕ) (l : LentToRead (length first) (length long) t) (fits : t .address < 2 ^ 32) (small : a < 2 ^ 32) where

@@ -1,6 +1,6 @@
--- Demand 2: after every history, look up answers each address of the territory with the hop of the longest live prefix that contains it,
--- and with 8 exactly if none does. Assumes nothing.
-use mathlib.Core.Path.{_≡_, refl, sym, ap, _∙_}
+-- Demand 2: after every history, look up answers each address of the territory with the length and the hop of the longest live prefix that
+-- contains it, and with 8 exactly if none does; the prefix that won is the address cut to that length. Assumes nothing.
+use mathlib.Core.Path.{_≡_, refl, sym, ap, subst, _∙_}
 use mathlib.Core.Bool.{Bool, true, false, cond}
 use mathlib.Core.List.{List}
 use Prim.Native.Nat.{ℕ, _+_, _*_, _/_, _%_, _≤_, _<_}
@@ -12,18 +12,18 @@ use Rattle.prefix.specs.declared.Prefix.{Prefix}
 use Rattle.prefix.specs.Prefixes.{top, Contains}
 use Rattle.prefix.specs.Price.{isOpen}
 use Rattle.prefix.specs.Geometry.{blocks, blockStart, blockOf, blockSize, width}
-use Rattle.prefix.specs.Routes.{Route, Match, no-route, via, best, IsBest, none, found}
-use Rattle.prefix.proofs.Prefixes.{in-range}
-use Rattle.prefix.proofs.Best.{best-is}
+use Rattle.prefix.specs.Routes.{Route, Match, no-route, via, best, IsLongest, IsBest, none, found, AllRoutes, Ascending}
+use Rattle.prefix.proofs.Prefixes.{cut-to, in-range}
+use Rattle.prefix.proofs.Best.{best-is, longest-unique}
 use Rattle.prefix.proofs.Blocks.{closed, closed-short, block-top}
 use Rattle.lookup.specs.declared.look.Answer.{Answer}
-use Rattle.cells.specs.Cells.{empty, pointerBit, isPointer, segmentOf, hopOf, cellOf}
-use Rattle.lookup.specs.Lookup.{refused, verdictOf, saysOf, lookUp, found as found-hop}
+use Rattle.cells.specs.Cells.{empty, pointerBit, isPointer, segmentOf, hopOf, lengthOf, cellOf}
+use Rattle.lookup.specs.Lookup.{refused, verdictOf, saysOf, lookUp, found as answer-found}
 use Rattle.cells.proofs.Direct.{isDirect?}
 use Rattle.lookup.proofs.Reading.{Stands, goes-on}
 use Rattle.prefix.proofs.Spans.{block-inside, aligned}
 use Rattle.cells.specs.Memory.{Lent, IsLent}
-use Rattle.history.specs.History.{History, memory, live, IsAnswer, routed, no-route as unrouted}
+use Rattle.history.specs.History.{History, memory, live, IsAnswer, routed, no-route as unrouted, wonBy}
 use Rattle.history.proofs.Matches.{Good, best-good, cell-direct}
 use Rattle.history.proofs.Invariant.{Inv, territory}
 use Rattle.history.proofs.Histories.{inv-history}
@@ -31,7 +31,7 @@ use Rattle.history.proofs.Histories.{inv-history}
 -- what a match is answered with
 abbrev answerOf : Match → Answer
 answerOf no-route = refused 8
-answerOf (via h l) = found-hop h
+answerOf (via h l) = answer-found l h
 
 -- m goes through a prefix of at most l bits, or nowhere
 abbrev AtMost : ℕ → Match → Type 0
@@ -44,10 +44,12 @@ verdict-of limit no-route g s = refl
 verdict-of limit (via h l) g s =
     let cell = cellOf (via h l) in
     let hop : hopOf cell ≡ h = omega arith in
+    let length : lengthOf cell ≡ l = omega arith in
     rw (
       stops (eqb? cell empty) (λ e. omega arith),
       passes (isDirect? limit cell) (record { some-hop = omega arith; hop-fits = omega arith; length-fits = omega arith }),
       hop,
+      length,
     )
 
 module _ (t : Prefix) (rs : List Route) (m : Lent) (I : Inv t rs m) (a : ℕ) (c : Contains t a) where
@@ -124,7 +126,32 @@ module _ (t : Prefix) (rs : List Route) (m : Lent) (I : Inv t rs m) (a : ℕ) (c
       go (none e n) = unrouted n (look-up-best ∙ ap answerOf e)
       go (found r e l) = routed r l (look-up-best ∙ ap answerOf e)
 
+-- ---- what a right answer says
+
+module _ {rs : List Route} {a : ℕ} (all : AllRoutes rs) where
+  -- there is one: number, length and hop are fixed
+  pub one-answer : Ascending rs → {x y : Answer} → IsAnswer rs a x → IsAnswer rs a y → x ≡ y
+  one-answer o (routed r l e) (routed s k f) = e ∙ ap (λ (q : Route). answer-found (q .prefix .length) (q .hop)) (longest-unique rs all o l k) ∙ sym f
+  one-answer o (routed r l e) (unrouted n f) = absurd (n r (l .member) (l .contains))
+  one-answer o (unrouted n e) (routed s k f) = absurd (n s (k .member) (k .contains))
+  one-answer o (unrouted n e) (unrouted m f) = e ∙ sym f
+
+  -- the prefix that won is the address cut to the length: it is live with the hop, and no live prefix that contains the address is longer
+  won : {answer : Answer} → IsAnswer rs a answer → answer .code ≡ 0 → IsLongest rs a (wonBy a answer)
+  won (routed r l e) z =
+      let cut = cut-to (all r (l .member) .formed) (l .contains) in
+      let same : r ≡ wonBy a (answer-found (r .prefix .length) (r .hop)) = λ i. record { prefix = cut i; hop = r .hop } in
+      subst (IsLongest rs a) (same ∙ ap (wonBy a) (sym e)) l
+  won (unrouted n e) z = absurd (omega (arith, ap (λ (x : Answer). x .code) e))
+
 -- Demand 2.
 pub demand-2 : (t : Prefix) (m : Lent) → IsLent t m → (h : History) (a : ℕ) → Contains t a
     → IsAnswer (live t m h) a (lookUp (memory t m h .tables .first) (memory t m h .tables .long) t a)
 demand-2 t m l h a c = is-answer t (live t m h) (memory t m h) (inv-history t m l h) a c
+
+-- And in support's words: where look up answers no refusal, the prefix that won is the address cut to the length that it answers, and it is
+-- live with the hop that it answers. None that is live and contains the address is longer.
+pub prefix-that-won : (t : Prefix) (m : Lent) → IsLent t m → (h : History) (a : ℕ) → Contains t a
+    → let answer = lookUp (memory t m h .tables .first) (memory t m h .tables .long) t a in
+    answer .code ≡ 0 → IsLongest (live t m h) a (wonBy a answer)
+prefix-that-won t m l h a c = won (inv-history t m l h .list .all) (demand-2 t m l h a c)

@@ -6,7 +6,7 @@ use mathlib.Core.Bool.{Bool, cond}
 use mathlib.Core.List.{List, [], List·Memᴰ as Mem}
 use lib.Dec.{eqb}
 use Rattle.prefix.specs.declared.Prefix.{Prefix}
-use Rattle.prefix.specs.Prefixes.{Contains}
+use Rattle.prefix.specs.Prefixes.{prefixBy, clearedOf, Contains}
 use Rattle.prefix.specs.Routes.{Route, applied, IsLongest}
 use Rattle.cells.specs.Memory.{Lent}
 use Rattle.lookup.specs.declared.look.Answer.{Answer}
@@ -39,7 +39,11 @@ unfoldable pub live : Prefix → Lent → History → List Route
 live t m start = []
 live t m (h then c) = cond (isAccepted t m h c) (applied (change c) (live t m h)) (live t m h)
 
--- an answer is that of the longest match: the hop of the longest live prefix that contains the address, or 8 where none does
+-- an answer is that of the longest match: the length and the hop of the longest live prefix that contains the address, or 8 where none does
 pub data IsAnswer (rs : List Route) (a : ℕ) (answer : Answer) : Type 0 where
-  routed : (r : Route) → IsLongest rs a r → answer ≡ found (r .hop) → IsAnswer rs a answer
+  routed : (r : Route) → IsLongest rs a r → answer ≡ found (r .prefix .length) (r .hop) → IsAnswer rs a answer
   no-route : ((r : Route) → Mem r rs → ¬ Contains (r .prefix) a) → answer ≡ refused 8 → IsAnswer rs a answer
+
+-- the prefix that won, as one reads it off an answer: the address cut to the answer's length, with the answer's hop
+abbrev pub wonBy : ℕ → Answer → Route
+wonBy a answer = record { prefix = prefixBy (clearedOf (answer .length) a) (answer .length); hop = answer .hop }

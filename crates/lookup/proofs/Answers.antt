@@ -1,9 +1,9 @@
 -- What a cell of the first table says, one law for each case; and what an answer of look up can be, so that the one number that holds its
--- code and its hop tells them. Assumes nothing.
+-- code, its length and its hop tells them. Assumes nothing.
 use mathlib.Core.Path.{_≡_, refl, sym, ap, _∙_}
 use mathlib.Core.Bool.{Bool, true, false, cond}
 use mathlib.Core.List.{List}
-use Prim.Native.Nat.{ℕ, _+_, _*_, _/_, _%_, _≤_, _<_}
+use Prim.Native.Nat.{ℕ, _+_, _*_, _/_, _%_, _^_, _≤_, _<_}
 use native.Mathlib.Omega.{arith}
 use lib.Dec.{ltb, eqb, lit≤, lit<}
 use lib.ListN.{length, getD}
@@ -12,11 +12,11 @@ use Rattle.prefix.specs.Routes.{lastHop}
 use Rattle.prefix.specs.declared.Prefix.{Prefix}
 use Rattle.prefix.specs.Prefixes.{contains}
 use Rattle.prefix.specs.Geometry.{width, blockSize}
-use Rattle.cells.specs.Cells.{empty, hopOf, pointerBit, isPointer, segmentOf}
+use Rattle.cells.specs.Cells.{empty, hopOf, lengthOf, pointerBit, isPointer, segmentOf}
 use Rattle.cells.specs.Memory.{lentToRead}
 use Rattle.cells.proofs.Direct.{Direct, isDirect?}
 use Rattle.lookup.specs.declared.look.Answer.{Answer}
-use Rattle.lookup.specs.Lookup.{refused, found, verdictOf, saysOf, lookUp, answerRadix, packed, unpackedOf}
+use Rattle.lookup.specs.Lookup.{refused, found, verdictOf, saysOf, lookUp, packed, unpackedOf}
 
 -- ---- what a cell of the first table says
 
@@ -43,34 +43,41 @@ by-low long low m cell n e h = e ∙ ap (λ (x : ℕ). packed (saysOf long x cel
 
 -- ---- what an answer can be
 
--- both parts are small; a refusal has no hop, and what is no refusal has one
+-- its parts are small; a refusal has length 0 and no hop, and what is no refusal has a hop
 pub record Told (r : Answer) : Type 0 where
   pub code : r .code ≤ 8
+  pub length : r .length ≤ 32
   pub hop : r .hop ≤ lastHop
-  pub refusal : (r .code ≡ 0 → ⊥) → r .hop ≡ 0
+  pub refusal : (r .code ≡ 0 → ⊥) → (r .length ≡ 0) × (r .hop ≡ 0)
   pub route : r .code ≡ 0 → 0 < r .hop
 
 told-refused : (code : ℕ) → 0 < code → code ≤ 8 → Told (refused code)
-told-refused code l h = record { code = h; hop = lit≤ tt; refusal = λ n. refl; route = λ e. absurd (omega arith) }
+told-refused code l h = record { code = h; length = lit≤ tt; hop = lit≤ tt; refusal = λ n. (refl, refl); route = λ e. absurd (omega arith) }
 
 told-cond : (t : Bool) {x y : Answer} → Told x → Told y → Told (cond t x y)
 told-cond true p q = p
 told-cond false p q = q
 
-pub told-verdict : (longest cell : ℕ) → Told (verdictOf longest cell)
+pub told-verdict : (longest cell : ℕ) → longest ≤ 32 → Told (verdictOf longest cell)
 unfolding verdictOf
-told-verdict longest cell = told-cond (eqb cell empty) (told-refused 8 (lit< tt) (lit≤ tt)) (go (isDirect? longest cell))
+told-verdict longest cell h = told-cond (eqb cell empty) (told-refused 8 (lit< tt) (lit≤ tt)) (go (isDirect? longest cell))
   where
-    go : {t : Bool} → Decides (Direct longest cell) t → Told (cond t (found (hopOf cell)) (refused 4))
-    go (holds d) = record { code = lit≤ tt; hop = d .hop-fits; refusal = λ n. absurd (n refl); route = λ e. d .some-hop }
+    go : {t : Bool} → Decides (Direct longest cell) t → Told (cond t (found (lengthOf cell) (hopOf cell)) (refused 4))
+    go (holds d) = record {
+      code = lit≤ tt;
+      length = omega (arith, d .length-fits);
+      hop = d .hop-fits;
+      refusal = λ n. absurd (n refl);
+      route = λ e. d .some-hop;
+    }
     go (fails n) = told-refused 4 (lit< tt) (lit≤ tt)
 
 pub told-says : (long : List ℕ) (low cell : ℕ) → Told (saysOf long low cell)
 unfolding saysOf
 told-says long low cell =
     told-cond (isPointer cell)
-    (told-cond (ltb (segmentOf cell) (length long / blockSize)) (told-verdict 32 _) (told-refused 4 (lit< tt) (lit≤ tt)))
-    (told-verdict width cell)
+    (told-cond (ltb (segmentOf cell) (length long / blockSize)) (told-verdict 32 _ (lit≤ tt)) (told-refused 4 (lit< tt) (lit≤ tt)))
+    (told-verdict width cell (lit≤ tt))
 
 pub told-look : (first long : List ℕ) (t : Prefix) (a : ℕ) → Told (lookUp first long t a)
 unfolding lookUp
@@ -81,13 +88,14 @@ told-look first long t a =
 
 -- ---- an answer as one number
 
--- what has a number's two parts is the answer that it holds
-pub parts : (r : Answer) (n : ℕ) → r .code ≡ n / answerRadix → r .hop ≡ n % answerRadix → r ≡ unpackedOf n
-parts r n c h = λ i. record { code = c i; hop = h i }
+-- what has a number's three parts is the answer that it holds
+pub parts : (r : Answer) (n : ℕ) → r .code ≡ n / 2 ^ 22 → r .length ≡ n / 2 ^ 16 % 2 ^ 6 → r .hop ≡ n % 2 ^ 16 → r ≡ unpackedOf n
+parts r n c l h = λ i. record { code = c i; length = l i; hop = h i }
 
 -- the number tells the answer, and is no pointer
 pub unpacked : {r : Answer} {n : ℕ} → Told r → n ≡ packed r → unpackedOf n ≡ r
-unpacked {r} {n} T e = sym (parts r n (omega (arith, T .hop)) (omega (arith, T .hop)))
+unpacked {r} {n} T e =
+    sym (parts r n (omega (arith, T .length, T .hop)) (omega (arith, T .length, T .hop)) (omega (arith, T .length, T .hop)))
 
 pub no-pointer : {r : Answer} → Told r → pointerBit ≤ packed r → ⊥
-no-pointer T p = omega (arith, T .code, T .hop)
+no-pointer T p = omega (arith, T .code, T .length, T .hop)

@@ -1,6 +1,6 @@
 -- What look up answers, for any numbers and any words: refusals 1, 3, 4 and 8 in this order, each under exactly its condition.
 -- Assumes nothing.
-use Prim.Native.Nat.{ℕ, _+_, _*_, _/_, _%_}
+use Prim.Native.Nat.{ℕ, _+_, _*_, _/_, _%_, _^_}
 use mathlib.Core.Bool.{cond}
 use mathlib.Core.List.{List}
 use lib.Dec.{ltb, eqb}
@@ -10,18 +10,19 @@ use Rattle.cells.specs.Memory.{lentToRead}
 use Rattle.prefix.specs.Prefixes.{contains}
 use Rattle.prefix.specs.Geometry.{width, blockSize, blockOf}
 use Rattle.lookup.specs.declared.look.Answer.{Answer}
-use Rattle.cells.specs.Cells.{empty, hopOf, isDirect, isPointer, segmentOf}
+use Rattle.cells.specs.Cells.{empty, hopOf, lengthOf, isDirect, isPointer, segmentOf}
 
--- a refusal has no hop
+-- a refusal has length 0 and hop 0
 abbrev pub refused : ℕ → Answer
-refused code = record { code = code; hop = 0 }
+refused code = record { code = code; length = 0; hop = 0 }
 
-abbrev pub found : ℕ → Answer
-found hop = record { code = 0; hop = hop }
+-- the length of the prefix that won, and its hop
+abbrev pub found : ℕ → ℕ → Answer
+found length hop = record { code = 0; length = length; hop = hop }
 
--- what the deciding cell says: 0 is no route, a direct cell its hop, and anything else is damage
+-- what the deciding cell says: 0 is no route, a direct cell its length and hop, and anything else is damage
 abbrev pub directOrDamage : ℕ → ℕ → Answer
-directOrDamage longest cell = cond (isDirect longest cell) (found (hopOf cell)) (refused 4)
+directOrDamage longest cell = cond (isDirect longest cell) (found (lengthOf cell) (hopOf cell)) (refused 4)
 
 unfoldable pub verdictOf : ℕ → ℕ → Answer
 verdictOf longest cell = cond (eqb cell empty) (refused 8) (directOrDamage longest cell)
@@ -41,11 +42,9 @@ lookUp first long t a =
 
 -- ---- an answer as one number
 
-abbrev pub answerRadix : ℕ
-answerRadix = 65536
-
 abbrev pub packed : Answer → ℕ
-packed answer = answer .code * answerRadix + answer .hop
+packed answer = answer .code * 2 ^ 22 + answer .length * 2 ^ 16 + answer .hop
 
+-- its parts: a length is below 2 ^ 6, and a hop below 2 ^ 16
 abbrev pub unpackedOf : ℕ → Answer
-unpackedOf number = record { code = number / answerRadix; hop = number % answerRadix }
+unpackedOf number = record { code = number / 2 ^ 22; length = number / 2 ^ 16 % 2 ^ 6; hop = number % 2 ^ 16 }

@@ -1,8 +1,8 @@
 // Look up: the answer to an address, from the first and the long table.
 ghost use mathlib.Core.Path.{_≡_};
-ghost use Prim.Native.Nat.{_<_};
+ghost use Prim.Native.Nat.{_<_, _^_};
 ghost use Rattle.prefix.specs.Geometry.{blockSize};
-ghost use Rattle.lookup.specs.Lookup.{answerRadix, refused, packed, unpackedOf, directOrDamage, verdictOf, saysOf, lookUp};
+ghost use Rattle.lookup.specs.Lookup.{refused, found, packed, unpackedOf, directOrDamage, verdictOf, saysOf, lookUp};
 ghost use Rattle.lookup.specs.inner.Standing.{standingOf};
 use cells::cell::Cell;
 use cells::sizes::Most;
@@ -11,39 +11,54 @@ use prefix::geometry::Block;
 use prefix::geometry::block_of;
 use prefix::geometry::blocks_of;
 
-// A refusal's number, or 0 with the hop.
+// A refusal's number, and 0 twice; or 0, the length of the prefix that won, and its hop.
 #[repr(C)]
 pub struct Answer {
     pub code: u32,
+    pub length: u32,
     pub hop: u32,
 }
 
-// An answer as the one number code * RADIX + hop: no other file knows how it is made.
+// An answer as the one number code * CODE + length * LENGTH + hop: no other file knows how it is made.
 impl Answer {
-    const RADIX: u32 = 65536;
+    // What one more in the length adds, which is more than any hop.
+    const LENGTH: u32 = 65536;
+    // More than any length.
+    const LENGTHS: u32 = 64;
+    // What one more in the code adds.
+    const CODE: u32 = Answer::LENGTHS * Answer::LENGTH;
     // Refusal 1, what is lent is not right.
-    pub const NOT_LENT: u32 = Answer::RADIX;
+    pub const NOT_LENT: u32 = Answer::CODE;
     // Refusal 3, the address is outside the territory.
-    pub const OUTSIDE: u32 = 3 * Answer::RADIX;
+    pub const OUTSIDE: u32 = 3 * Answer::CODE;
     // Refusal 4, damage.
-    pub const DAMAGE: u32 = 4 * Answer::RADIX;
+    pub const DAMAGE: u32 = 4 * Answer::CODE;
     // Refusal 8, no route.
-    pub const NO_ROUTE: u32 = 8 * Answer::RADIX;
+    pub const NO_ROUTE: u32 = 8 * Answer::CODE;
 
     // Any refusal.
     pub fn refusal(code: u32) -> u32
-        requires { ⌜ code < answerRadix ⌝ }
+        requires { ⌜ code < 2 ^ 10 ⌝ }
         ensures { λ r. ⌜ r ≡ packed (refused code) ⌝ }
     {
-        code * Answer::RADIX
+        code * Answer::CODE
+    }
+
+    // The prefix that won.
+    pub fn route(length: u32, hop: u32) -> u32
+        requires { ⌜ (length < 2 ^ 6) × (hop < 2 ^ 16) ⌝ }
+        ensures { λ r. ⌜ r ≡ packed (found length hop) ⌝ }
+    {
+        length * Answer::LENGTH + hop
     }
 
     pub fn unpack(number: u32) -> Answer
         ensures { λ r. ⌜ r ≡ unpackedOf number ⌝ }
     {
         Answer {
-            code: number / Answer::RADIX,
-            hop: number % Answer::RADIX,
+            code: number / Answer::CODE,
+            length: number / Answer::LENGTH % Answer::LENGTHS,
+            hop: number % Answer::LENGTH,
         }
     }
 }
@@ -76,12 +91,12 @@ pub fn standing(first: usize, long: usize, territory: Prefix, address: u32) -> u
     0
 }
 
-// The hop of a direct cell, or refusal 4, as one number.
+// The length and the hop of a direct cell, or refusal 4, as one number.
 fn direct_or_damage(cell: u32, longest: u32) -> u32
     ensures { λ r. ⌜ r ≡ packed (directOrDamage longest cell) ⌝ }
 {
     if Cell::is_direct(cell, longest) {
-        return Cell::hop(cell);
+        return Answer::route(Cell::length(cell), Cell::hop(cell));
     }
     Answer::DAMAGE
 }
@@ -114,13 +129,17 @@ pub fn says(long: &[u32], low: usize, cell: u32) -> u32
     verdict(long[segment * Block::CELLS + low], 32)
 }
 
-// The answer to an address: the hop of the deciding cell, or refusal 1, 3, 4 or 8.
+// The answer to an address: the length and the hop of the deciding cell, or refusal 1, 3, 4 or 8.
 pub fn look_up(first: &[u32], long: &[u32], territory: Prefix, address: u32) -> Answer
     ensures { λ r. ⌜ r ≡ lookUp (now (first .entry)) (now (long .entry)) territory address ⌝ }
 {
     let code = standing(first.len(), long.len(), territory, address);
     if code != 0 {
-        return Answer { code, hop: 0 };
+        return Answer {
+            code,
+            length: 0,
+            hop: 0,
+        };
     }
     let block = block_of(territory, address);
     let number = says(long, (address % Block::SIZE) as usize, first[block]);

@@ -73,11 +73,11 @@ names? r T z h = go (eqb? h 0)
   where
     go : {t : Bool} → Decides (h ≡ 0) t → Decides (h ≡ r .hop) (cond t (eqb (r .code) 8) (eqb (r .code) 0 && eqb (r .hop) h))
     go (holds q) =
-        iff? (eqb? (r .code) 8) (λ e. q ∙ sym (T .refusal (λ o. omega arith)))
+        iff? (eqb? (r .code) 8) (λ e. q ∙ sym (T .refusal (λ o. omega arith) .1))
         (λ p. no-refusal (r .code) z (λ e. absurd (omega (arith, T .route e))) (λ e. e))
     go (fails n) =
         iff? (and? (eqb? (r .code) 0) (eqb? (r .hop) h)) (λ p. sym (p .1))
-        (λ p. no-refusal (r .code) z (λ e. (e, sym p)) (λ e. absurd (n (p ∙ T .refusal (λ o. omega arith)))))
+        (λ p. no-refusal (r .code) z (λ e. (e, sym p)) (λ e. absurd (n (p ∙ T .refusal (λ o. omega arith) .1))))
 
 -- ---- one booking, by what it does to the words
 

@@ -5,7 +5,7 @@ use Rattle.lookup.proofs.look.Answer.unpack.Statement.{statement}
 use Rattle.lookup.proofs.look.Answer.unpack.Tie as tie
 
 returns : tie.Need-returns
-returns c = parts _ (c .args .number) (omega arith) (omega arith)
+returns c = parts _ (c .args .number) (omega arith) (omega arith) (omega arith)
 
 pub unpack-spec : {M : Type 1} → statement M
 unpack-spec = tie.close (tie.spec returns)
