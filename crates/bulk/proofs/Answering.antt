@@ -1,9 +1,9 @@
 -- The passes one after another make of each address what look up answers; and the outcome of a call, by what was tested. Assumes nothing.
 use mathlib.Core.Path.{_≡_, sym, ap, _∙_}
 use mathlib.Core.List.{List, map}
-use Prim.Native.Nat.{ℕ, _%_, _^_, _<_}
+use Prim.Native.Nat.{ℕ, _+_, _-_, _%_, _^_, _<_}
 use native.Mathlib.Omega.{arith}
-use lib.Dec.{ltb, eqb, lit≤}
+use lib.Dec.{ltb, eqb}
 use mathlib.Core.Bool.{_&&_}
 use lib.ListN.{length, getD}
 use Rattle.ground.proofs.Lists.{pass-at, pass-then, pass-map}
@@ -19,9 +19,9 @@ use Rattle.lookup.specs.inner.Standing.{standingOf}
 use Rattle.prefix.specs.Geometry.{width, blockSize, blockOf}
 use Rattle.cells.proofs.Lending.{LentToRead, lentToRead?}
 use Rattle.lookup.proofs.Reading.{goes-on}
-use Rattle.lookup.proofs.Answers.{decides, told-verdict, no-pointer}
+use Rattle.lookup.proofs.Answers.{decides}
 use Rattle.bulk.specs.All.{Outcome, answerOf, allOf}
-use Rattle.bulk.specs.inner.Passes.{blockFrom, placeOf, saidOrPointer, byFirst, byLong, placedAll, fetchedAll, byFirstAll, byLongAll}
+use Rattle.bulk.specs.inner.Passes.{blockFrom, placeOf, fetchedOf, verdictOrMarked, saidOf, placedAll, fetchedAll, saidAll}
 use Rattle.bulk.proofs.Inside.{block-from, inside?}
 
 -- ---- what was tested
@@ -63,30 +63,32 @@ module _ (first long : List ℕ) (t : Prefix) (addresses answers : List ℕ) whe
 
 -- ---- one address: what the passes make of it
 
--- a first cell, by itself and then by the long table
-by-both : (long : List ℕ) (a cell : ℕ) → byLong long a (saidOrPointer cell) ≡ packed (saysOf long (a % blockSize) cell)
-unfolding byLong saidOrPointer
+-- a first cell, fetched and then told
+by-both : (long : List ℕ) (a cell : ℕ) → verdictOrMarked (fetchedOf long a cell) ≡ packed (saysOf long (a % blockSize) cell)
+unfolding verdictOrMarked fetchedOf
 by-both long a cell =
+    let said = packed (saysOf long (a % blockSize) cell) in
     by-test (leb? pointerBit cell)
-    (λ p. ap (byLong long a) (cond-on _ _ (leb? pointerBit cell) p) ∙ cond-on _ _ (leb? pointerBit cell) p)
-    (λ n. ap (byLong long a) (cond-off _ _ (leb? pointerBit cell) n)
-    ∙ cond-off _ _ (leb? pointerBit (packed (verdictOf width cell))) (no-pointer (told-verdict width cell (lit≤ tt)))
+    (λ p. let bare : pointerBit + said - pointerBit ≡ said = omega arith in
+    ap verdictOrMarked (cond-on _ _ (leb? pointerBit cell) p) ∙ cond-on _ _ (leb? pointerBit (pointerBit + said)) (omega arith) ∙ bare)
+    (λ n. ap verdictOrMarked (cond-off _ _ (leb? pointerBit cell) n)
+    ∙ cond-off _ _ (leb? pointerBit cell) n
     ∙ sym (ap packed (decides long (a % blockSize) cell n)))
 
 module _ (first long : List ℕ) (t : Prefix) (a : ℕ) (l : LentToRead (length first) (length long) t) (fits : t .address < 2 ^ 32) (small : a < 2 ^ 32) where
   in? : Decides (Contains t a) (ltb (blockFrom (t .address) a) (length first))
   in? = inside? (l .territory) fits small (length first) (l .a-cell-a-block)
 
-  passes-answer : byLong long a (byFirst (t .address) (length first) a (getD first (placeOf (t .address) (length first) a) 0)) ≡ answerOf first long t a
-  unfolding lookUp byFirst placeOf byLong
+  passes-answer : saidOf (t .address) (length first) a (fetchedOf long a (getD first (placeOf (t .address) (length first) a) 0)) ≡ answerOf first long t a
+  unfolding lookUp saidOf placeOf
   passes-answer =
       by-test (contains? t a)
       (λ c. let cell : ℕ = getD first (blockOf t a) 0 in
-      ap (λ (k : ℕ). byLong long a (byFirst (t .address) (length first) a (getD first k 0))) (cond-on _ _ in? c ∙ block-from (l .territory) fits small c)
-      ∙ ap (byLong long a) (cond-on _ _ in? c)
+      ap (λ (k : ℕ). saidOf (t .address) (length first) a (fetchedOf long a (getD first k 0))) (cond-on _ _ in? c ∙ block-from (l .territory) fits small c)
+      ∙ cond-on _ _ in? c
       ∙ by-both long a cell
       ∙ ap packed (goes-on refused (length first) (length long) t a (saysOf long (a % blockSize) cell) (record { lent = l; inside = c })))
-      (λ n. ap (byLong long a) (cond-off _ _ in? n)
+      (λ n. cond-off _ _ in? n
       ∙ sym (ap packed (cond-on _ _ (lentToRead? (length first) (length long) t) l ∙ cond-off _ _ (contains? t a) n)))
 
 -- ---- all addresses
@@ -105,11 +107,11 @@ module _ (first long : List ℕ) (t : Prefix) (addresses answers : List ℕ) (l 
       let at = place-lent (t .address) (length first) (getD addresses i 0) (omega (arith, l .a-cell-a-block, some-block t)) in
       omega (arith, pass-at _ answers y e i h)
 
-  -- the four passes, each on what the last one left
-  pub passes-all : t .address < 2 ^ 32 → ((i : ℕ) → i < length addresses → getD addresses i 0 < 2 ^ 32) → length addresses ≡ length answers → {v w x y : List ℕ}
-      → v ≡ placedAll (t .address) (length first) addresses answers → w ≡ fetchedAll first v
-      → x ≡ byFirstAll (t .address) (length first) addresses w → y ≡ byLongAll long addresses x
-      → y ≡ map (answerOf first long t) addresses
-  passes-all fits small n {v} {w} {x} {y} p q r s =
-      pass-then _ _ answers x y (pass-then _ _ answers w x (pass-then _ _ answers v w p q) r) s
+  -- the three passes, each on what the last one left
+  pub passes-all : t .address < 2 ^ 32 → ((i : ℕ) → i < length addresses → getD addresses i 0 < 2 ^ 32) → length addresses ≡ length answers → {v w x : List ℕ}
+      → v ≡ placedAll (t .address) (length first) addresses answers → w ≡ fetchedAll first long addresses v
+      → x ≡ saidAll (t .address) (length first) addresses w
+      → x ≡ map (answerOf first long t) addresses
+  passes-all fits small n {v} {w} {x} p q r =
+      pass-then _ _ answers w x (pass-then _ _ answers v w p q) r
       ∙ pass-map _ (answerOf first long t) addresses answers n (λ i k. passes-answer first long t (getD addresses i 0) l fits (small i k))

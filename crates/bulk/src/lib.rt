@@ -1,10 +1,11 @@
 // Look up of many addresses in one call. What is lent is tested once, and each pass over the answers does one small thing, so that
-// many reads of the first table are under way at once and only a pointer is jumped to.
+// many reads of the first table are under way at once and only a pointer is jumped to. Between the passes the room for the answers holds
+// what the next one needs.
 ghost use mathlib.Core.Path.{_≡_};
 ghost use Prim.Native.Nat.{ℕ, _<_};
 ghost use lib.ListN.{length, getD};
 ghost use Rattle.bulk.specs.All.{allOf};
-ghost use Rattle.bulk.specs.inner.Passes.{blockFrom, placeOf, saidOrPointer, byFirst, byLong, placedAll, fetchedAll, byFirstAll, byLongAll};
+ghost use Rattle.bulk.specs.inner.Passes.{blockFrom, placeOf, fetchedOf, verdictOrMarked, saidOf, placedAll, fetchedAll, saidAll};
 use cells::cell::Cell;
 use lookup::look::Answer;
 use lookup::look::says;
@@ -29,34 +30,38 @@ fn place(base: u32, blocks: u32, address: u32) -> u32
     if block < blocks { block } else { 0 }
 }
 
-// What a first cell says, and a pointer as it is.
-fn said_or_pointer(cell: u32) -> u32
-    ensures { λ r. ⌜ r ≡ saidOrPointer cell ⌝ }
+// A first cell as it is; and of a pointer what it says for the address, marked by a pointer's bit, which no answer has.
+fn fetched(long: &[u32], address: u32, cell: u32) -> u32
+    ensures { λ r. ⌜ r ≡ fetchedOf (now (long .entry)) address cell ⌝ }
 {
-    let number = verdict(cell, Block::WIDTH);
-    if Cell::is_pointer(cell) { cell } else { number }
+    if !Cell::is_pointer(cell) {
+        return cell;
+    }
+    Cell::POINTER + says(long, (address % Block::SIZE) as usize, cell)
+}
+
+// The answer that is marked, or what the first cell says.
+fn verdict_or_marked(word: u32) -> u32
+    ensures { λ r. ⌜ r ≡ verdictOrMarked word ⌝ }
+{
+    let number = verdict(word, Block::WIDTH);
+    if Cell::is_pointer(word) {
+        word - Cell::POINTER
+    } else {
+        number
+    }
 }
 
 // That in the territory, and refusal 3 outside it.
-fn by_first(base: u32, blocks: u32, address: u32, cell: u32) -> u32
-    ensures { λ r. ⌜ r ≡ byFirst base blocks address cell ⌝ }
+fn said(base: u32, blocks: u32, address: u32, word: u32) -> u32
+    ensures { λ r. ⌜ r ≡ saidOf base blocks address word ⌝ }
 {
-    let number = said_or_pointer(cell);
+    let number = verdict_or_marked(word);
     if block(base, address) < blocks {
         number
     } else {
         Answer::OUTSIDE
     }
-}
-
-// What a pointer says for an address. The numbers of answers are no pointers, and stay.
-fn by_long(long: &[u32], address: u32, word: u32) -> u32
-    ensures { λ r. ⌜ r ≡ byLong (now (long .entry)) address word ⌝ }
-{
-    if !Cell::is_pointer(word) {
-        return word;
-    }
-    says(long, (address % Block::SIZE) as usize, word)
 }
 
 // The first pass: where the first table is read.
@@ -72,42 +77,31 @@ fn places(base: u32, blocks: u32, addresses: &[u32], answers: &mut [u32])
     }
 }
 
-// The second pass: what stands there. It does nothing else, so that as many reads as can be are under way at once.
-fn fetch(first: &[u32], answers: &mut [u32])
+// The second pass: what stands there. Next to nothing waits for a read, so that as many as can be are under way at once; a pointer, which
+// is rare and foreseen to be none, is followed here.
+fn fetch(first: &[u32], long: &[u32], addresses: &[u32], answers: &mut [u32])
+    requires { ⌜ length (now answers) ≡ length (now addresses) ⌝ }
     requires { ⌜ ((i : ℕ) → i < length (now answers) → getD (now answers) i 0 < length (now first)) ⌝ }
-    ensures { λ _. ⌜ now (answers .exit) ≡ fetchedAll (now (first .entry)) (now (answers .entry)) ⌝ }
+    ensures { λ _. ⌜ now (answers .exit) ≡ fetchedAll (now (first .entry)) (now (long .entry)) (now (addresses .entry)) (now (answers .entry)) ⌝ }
 {
     let count = answers.len();
     let mut i = 0;
     while i < count {
-        answers[i] = first[answers[i] as usize];
+        answers[i] = fetched(long, addresses[i], first[answers[i] as usize]);
         i += 1;
     }
 }
 
 // The third pass: what it says. It has no jump, so that a machine can do several cells at once.
-fn by_first_all(base: u32, blocks: u32, addresses: &[u32], answers: &mut [u32])
+fn say(base: u32, blocks: u32, addresses: &[u32], answers: &mut [u32])
     requires { ⌜ length (now answers) ≡ length (now addresses) ⌝ }
-    ensures { λ _. ⌜ now (answers .exit) ≡ byFirstAll base blocks (now (addresses .entry)) (now (answers .entry)) ⌝ }
+    ensures { λ _. ⌜ now (answers .exit) ≡ saidAll base blocks (now (addresses .entry)) (now (answers .entry)) ⌝ }
 {
     let count = answers.len();
     let mut i = 0;
     while i < count {
-        answers[i] = by_first(base, blocks, addresses[i], answers[i]);
+        answers[i] = said(base, blocks, addresses[i], answers[i]);
         i += 1;
-    }
-}
-
-// The fourth pass: what each pointer says.
-fn by_long_all(long: &[u32], addresses: &[u32], answers: &mut [u32])
-    requires { ⌜ length (now answers) ≡ length (now addresses) ⌝ }
-    ensures { λ _. ⌜ now (answers .exit) ≡ byLongAll (now (long .entry)) (now (addresses .entry)) (now (answers .entry)) ⌝ }
-{
-    let count = answers.len();
-    let mut done = 0;
-    while done < count {
-        answers[done] = by_long(long, addresses[done], answers[done]);
-        done += 1;
     }
 }
 
@@ -133,8 +127,7 @@ pub fn look_up_all(
     }
     let blocks = first.len() as u32;
     places(base, blocks, addresses, answers);
-    fetch(first, answers);
-    by_first_all(base, blocks, addresses, answers);
-    by_long_all(long, addresses, answers);
+    fetch(first, long, addresses, answers);
+    say(base, blocks, addresses, answers);
     0
 }

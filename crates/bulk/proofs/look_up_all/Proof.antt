@@ -1,4 +1,4 @@
--- `bulk::look_up_all` meets its contract: where both tests pass, the four passes answer each address. Assumes nothing.
+-- `bulk::look_up_all` meets its contract: where both tests pass, the three passes answer each address. Assumes nothing.
 use mathlib.Core.Path.{_≡_}
 use native.Mathlib.Omega.{arith}
 use lib.ListN.{length}
@@ -39,15 +39,16 @@ cast-blocks c =
 
 fetch-requires : tie.Need-fetch-requires
 fetch-requires c κs =
-    let s = c .before .before .before .before .before .before .before .before .before .before .before .before .args in
-    places-lent (now (s .first)) (now (s .long)) (s .territory) (now (s .addresses)) (now (s .answers))
-    (may-read (c .before .before .before .before .before .before)) (c .before .before .before .places .ensures)
+    let s = c .before .before .before .before .before .before .before .before .before .before .before .before .args in (
+      omega (arith, room-each (c .before .before .before .before .before)),
+      places-lent (now (s .first)) (now (s .long)) (s .territory) (now (s .addresses)) (now (s .answers))
+          (may-read (c .before .before .before .before .before .before)) (c .before .before .before .places .ensures),
+    )
 
 returns-3 : tie.Need-returns-3
 returns-3 c =
-    let longs = c .before .before in
-    let firsts = longs .before .before .before .before in
-    let fetching = firsts .before .before .before .before in
+    let saying = c .before .before in
+    let fetching = saying .before .before .before .before in
     let placing = fetching .before .before .before .before in
     let passed = placing .before .before in
     let known = passed .before .before .before .before in
@@ -58,7 +59,7 @@ returns-3 c =
     answered (now (s .first)) (now (s .long)) (s .territory) (now (s .addresses)) (now (s .answers)) (l, e)
     (passes-all (now (s .first)) (now (s .long)) (s .territory) (now (s .addresses)) (now (s .answers)) l
     (omega (arith, start .good)) (λ i h. omega (arith, known .shared-slice-known3 .given i)) e
-    (placing .places .ensures) (fetching .fetch .ensures) (firsts .by-first-all .ensures) (longs .by-long-all .ensures))
+    (placing .places .ensures) (fetching .fetch .ensures) (saying .say .ensures))
 
 pub look-up-all-spec : {M : Type 1} → statement M
 look-up-all-spec =
@@ -70,7 +71,6 @@ look-up-all-spec =
     cast-blocks
     (λ c κs. search needs)
     fetch-requires
-    (λ c κs. search needs)
     (λ c κs. search needs)
     (λ c. search needs)
     returns-3)

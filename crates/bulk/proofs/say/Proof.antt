@@ -1,15 +1,15 @@
--- `bulk::by_first_all` meets its contract. The loop's invariant: the answers before i are those by the first table. Assumes nothing.
+-- `bulk::say` meets its contract. The loop's invariant: the answers before i are said. Assumes nothing.
 use Prim.Native.Nat.{_-_}
 use native.Mathlib.Omega.{arith}
 use lib.ListN.{getD}
 use borrow.Author.Needs.{needs}
-use Rattle.bulk.specs.inner.Passes.{byFirst}
+use Rattle.bulk.specs.inner.Passes.{saidOf}
 use Rattle.ground.proofs.Lists.{Passed, pass-none, pass-more, pass-all}
-use Rattle.bulk.proofs.by_first_all.Statement.{statement}
-use Rattle.bulk.proofs.by_first_all.Tie as tie
+use Rattle.bulk.proofs.say.Statement.{statement}
+use Rattle.bulk.proofs.say.Tie as tie
 
 abbrev Inv-loop : tie.InvT-loop
-Inv-loop base blocks addresses answers₀ count i₀ answers i = Passed (λ j x. byFirst base blocks (getD addresses j 0) x) answers₀ i answers
+Inv-loop base blocks addresses answers₀ count i₀ answers i = Passed (λ j x. saidOf base blocks (getD addresses j 0) x) answers₀ i answers
 
 abbrev μ-loop : tie.MeasureT-loop
 μ-loop base blocks addresses answers₀ count i₀ answers i = count - i
@@ -18,13 +18,13 @@ loop-holds : tie.Need-loop-holds Inv-loop μ-loop
 loop-holds c = pass-none
 
 loop-again : tie.Need-loop-again Inv-loop μ-loop
-loop-again c = pass-more (c .before .before .before .before .loop .inv) (c .by-first .ensures)
+loop-again c = pass-more (c .before .before .before .before .loop .inv) (c .said .ensures)
 
 returns : tie.Need-returns Inv-loop μ-loop
 returns c = pass-all (c .before .loop .inv) (omega arith)
 
-pub by-first-all-spec : {M : Type 1} → statement M
-by-first-all-spec =
+pub say-spec : {M : Type 1} → statement M
+say-spec =
     tie.close
     (tie.spec
     Inv-loop

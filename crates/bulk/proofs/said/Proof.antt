@@ -1,25 +1,25 @@
--- `bulk::by_first` meets its contract: the test picks what the cell says, or refusal 3. Assumes nothing.
+-- `bulk::said` meets its contract: the test picks what the word says, or refusal 3. Assumes nothing.
 use mathlib.Core.Path.{sym, _∙_}
 use native.Mathlib.Omega.{arith}
 use Rattle.ground.proofs.Tests.{ltb?, cond-on, cond-off}
-use Rattle.bulk.specs.inner.Passes.{blockFrom, byFirst}
+use Rattle.bulk.specs.inner.Passes.{blockFrom, saidOf}
 use borrow.Author.Needs.{needs}
-use Rattle.bulk.proofs.by_first.Statement.{statement}
-use Rattle.bulk.proofs.by_first.Tie as tie
+use Rattle.bulk.proofs.said.Statement.{statement}
+use Rattle.bulk.proofs.said.Tie as tie
 
 returns : tie.Need-returns
-unfolding byFirst
+unfolding saidOf
 returns c =
     let s = c .before .before .before .args in
-    c .before .before .said-or-pointer .ensures
+    c .before .before .verdict-or-marked .ensures
     ∙ sym (cond-on _ _ (ltb? (blockFrom (s .base) (s .address)) (s .blocks)) (omega arith))
 
 returns-2 : tie.Need-returns-2
-unfolding byFirst
+unfolding saidOf
 returns-2 c =
     let s = c .before .before .before .args in
     sym (cond-off _ _ (ltb? (blockFrom (s .base) (s .address)) (s .blocks)) (λ l. omega arith))
 
-pub by-first-spec : {M : Type 1} → statement M
-by-first-spec =
+pub said-spec : {M : Type 1} → statement M
+said-spec =
     tie.close (tie.spec (λ c κs. search needs) (λ c κs. search needs) returns returns-2)

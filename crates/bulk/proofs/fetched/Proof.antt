@@ -1,0 +1,45 @@
+-- `bulk::fetched` meets its contract: a cell that is no pointer stays, and `says` answers a pointer. Assumes nothing.
+use mathlib.Core.Path.{_≡_, sym, ap, _∙_}
+use Prim.Native.Nat.{ℕ, _+_, _%_}
+use native.Mathlib.Omega.{arith}
+use denote.Ref.{now}
+use Rattle.ground.proofs.Tests.{leb?, if-so, if-not, cond-on, cond-off}
+use Rattle.prefix.specs.Geometry.{blockSize}
+use Rattle.cells.specs.Cells.{pointerBit}
+use Rattle.lookup.specs.Lookup.{packed, saysOf}
+use Rattle.lookup.proofs.Answers.{by-low, told-says}
+use Rattle.bulk.specs.inner.Passes.{fetchedOf}
+use borrow.Author.Needs.{needs}
+use Rattle.bulk.proofs.fetched.Statement.{statement}
+use Rattle.bulk.proofs.fetched.Tie as tie
+
+returns : tie.Need-returns
+unfolding fetchedOf
+returns c =
+    let pointer = leb? pointerBit (c .before .before .before .args .cell) in
+    sym (cond-off _ _ pointer (if-not pointer (c .before .is-pointer .ensures) (c .if1 .taken)))
+
+-- what a pointer says
+answer : (c : tie.After-says) → let s = c .before .before .before .before .args in
+    c .says .result ≡ packed (saysOf (now (s .long)) (s .address % blockSize) (s .cell))
+answer c =
+    let s = c .before .before .before .before .args in
+    by-low (now (s .long)) _ (s .address % blockSize) (s .cell) (c .says .result) (c .says .ensures) (omega arith)
+
+-- it is a word, marked
+add-result : tie.Need-add-result
+add-result c =
+    let s = c .before .before .before .before .args in
+    let told = told-says (now (s .long)) (s .address % blockSize) (s .cell) in
+    omega (arith, answer c, told .code, told .length, told .hop)
+
+returns-2 : tie.Need-returns-2
+unfolding fetchedOf
+returns-2 c =
+    let s = c .before .before .before .before .args in
+    let pointer = leb? pointerBit (s .cell) in
+    ap (λ (n : ℕ). pointerBit + n) (answer c)
+    ∙ sym (cond-on _ _ pointer (if-so pointer (c .before .before .is-pointer .ensures) (c .before .if1 .left)))
+
+pub fetched-spec : {M : Type 1} → statement M
+fetched-spec = tie.close (tie.spec (λ c κs. search needs) returns (λ c. search needs) (λ c κs. search needs) add-result returns-2)
