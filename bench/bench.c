@@ -1,6 +1,6 @@
 /* The bench: the library's calls beside plain C and DPDK's rte_lpm, as ratios of times taken in turn in one process. Words choose parts:
  * peer (the answers compared with DPDK's), look-up, costs (bookings and the cost sheet), tests, updates, hard; none means all of them. It
- * prints Markdown tables. */
+ * prints Markdown tables. With BEFORE another build of the library is in the process, each name with before_ in front. */
 #define _GNU_SOURCE
 #include <stdio.h>
 #include <stdlib.h>
@@ -12,6 +12,11 @@
 #ifdef DPDK
 #include <rte_eal.h>
 #include <rte_lpm.h>
+#endif
+
+#ifdef BEFORE
+extern __typeof__(rk_look_up) before_rk_look_up;
+extern __typeof__(rk_look_up_all) before_rk_look_up_all;
 #endif
 
 enum { BLOCKS = RK_FIRST_CELLS(0), RULES = RK_MOST_RULES, ROUNDS = 11 };
@@ -119,12 +124,15 @@ static void new_peer(void) {
 }
 static int peer_add(uint32_t address, uint32_t length, uint32_t hop) { return rte_lpm_add(peer, address, length, hop); }
 static int peer_delete(uint32_t address, uint32_t length) { return rte_lpm_delete(peer, address, length); }
+/* No call of rte_lpm tells the length of the prefix that won, but its entries hold it; that of a group has its number for the hop. */
+static uint32_t peer_length(uint32_t address) {
+    struct rte_lpm_tbl_entry entry = peer->tbl24[address >> 8];
+    return entry.valid_group ? peer->tbl8[entry.next_hop * 256 + address % 256].depth : entry.depth;
+}
 #else
 static void new_peer(void) {}
 static int peer_add(uint32_t address, uint32_t length, uint32_t hop) { return (void)address, (void)length, (void)hop, 0; }
 #endif
-
-static uint32_t prefix_of(uint32_t address, uint32_t length) { return length ? address & 0xffffffffu << (32 - length) : 0; }
 
 /* More random rules, until `count` are live: every tenth longer than 24 if `longer`, and those in `spread` blocks at most (0: anywhere). */
 static void grow(struct memory m, size_t count, int longer, int spread) {
@@ -137,7 +145,7 @@ static void grow(struct memory m, size_t count, int longer, int spread) {
             length = 25 + rnd() % 8;
             if (spread) address = blocks[rnd() % spread] + rnd() % 256;
         }
-        address = prefix_of(address, length);
+        address = RK_CUT(address, length);
         if (announce(m, RULES, address, length, hop)) fail("announce");
         if (peer_add(address, length, hop)) fail("rte_lpm_add");
     }
@@ -161,7 +169,7 @@ static void compare_with_peer(void) {
             /* A third lie near an earlier one, so that prefixes nest; the shortest are few, since each paints half the table. */
             uint32_t length = i % 50 == 0 ? 1 + rnd() % 10 : 11 + rnd() % 22, hop = 1 + rnd() % 32767;
             uint32_t near = i && rnd() % 3 == 0 ? seen[rnd() % i].address ^ rnd() % 1024 : rnd();
-            seen[i].address = prefix_of(near, length), seen[i].length = length;
+            seen[i].address = RK_CUT(near, length), seen[i].length = length;
             if (announce(m, RULES, seen[i].address, length, hop)) fail("announce");
             if (peer_add(seen[i].address, length, hop)) fail("rte_lpm_add");
             if (i % 3 == 0) {
@@ -183,6 +191,7 @@ static void compare_with_peer(void) {
             uint32_t one = rk_look_up((uint8_t *)m.first, 4ul * BLOCKS, (uint8_t *)m.lng, 1024 * m.segments, 0, 0, addresses[i]);
             if (answers[i] != one) fail("rk_look_up_all differs from rk_look_up");
             if (RK_CODE(one) != code || RK_HOP(one) != (code == RK_OK ? hop : 0)) fail("an answer differs from rte_lpm_lookup's");
+            if (RK_LENGTH(one) != (code == RK_OK ? peer_length(addresses[i]) : 0)) fail("a length differs from rte_lpm's");
             compared++, routed += code == RK_OK;
         }
     }
@@ -195,7 +204,8 @@ static void compare_with_peer(void) {
 
 /* ---- look up ---- */
 
-enum { ADDRESSES = 1 << 22, CALL = 1024, SEGMENTS = 8192, WAYS = 6 };
+enum { ADDRESSES = 1 << 22, CALL = 1024, SEGMENTS = 8192 };
+enum { PLAIN_ONE, RK_ONE, BEFORE_ONE, PLAIN_ALL, RK_ALL, BEFORE_ALL, PEER_ONE, PEER_ALL, WAYS };
 static uint32_t *first, *lng;
 #ifdef DPDK
 static struct rte_lpm *mirror; /* its first table is `first`, its second `lng` */
@@ -213,9 +223,24 @@ static void plain_all(const uint32_t *a, uint32_t *r) { plain_look_up_all(first,
 static void rk_all(const uint32_t *a, uint32_t *r) {
     if (rk_look_up_all(first, BLOCKS, lng, 256 * SEGMENTS, 0, 0, a, CALL, r, CALL)) fail("look up");
 }
+#ifdef BEFORE
+static void before_one(const uint32_t *a, uint32_t *r) {
+    for (int i = 0; i < CALL; i++)
+        r[i] = before_rk_look_up((uint8_t *)first, 4ul * BLOCKS, (uint8_t *)lng, 1024ul * SEGMENTS, 0, 0, a[i]);
+}
+static void before_all(const uint32_t *a, uint32_t *r) {
+    if (before_rk_look_up_all(first, BLOCKS, lng, 256 * SEGMENTS, 0, 0, a, CALL, r, CALL)) fail("look up before");
+}
+#endif
 #ifdef DPDK
+/* As rk_look_up answers, but with length 0. */
 static void peer_one(const uint32_t *a, uint32_t *r) {
-    for (int i = 0; i < CALL; i++) r[i] = rte_lpm_lookup(mirror, a[i], &r[i]) ? 8u << 16 : r[i];
+    for (int i = 0; i < CALL; i++) r[i] = rte_lpm_lookup(mirror, a[i], &r[i]) ? (uint32_t)RK_NO_ROUTE << 22 : r[i];
+}
+static int same_hops(const uint32_t *ours, const uint32_t *theirs) {
+    int i = 0;
+    while (i < CALL && RK_CODE(ours[i]) == RK_CODE(theirs[i]) && RK_HOP(ours[i]) == RK_HOP(theirs[i])) i++;
+    return i == CALL;
 }
 static void peer_all(const uint32_t *a, uint32_t *r) { rte_lpm_lookup_bulk(mirror, a, r, CALL); }
 #endif
@@ -226,9 +251,13 @@ static void load(const uint32_t *first_from, const uint32_t *long_from) {
 }
 
 static void time_ways(struct memory m, int rules, int huge, const uint32_t *addresses) {
-    static way *const ways[WAYS] = {plain_one, rk_one, plain_all, rk_all,
+    static way *const ways[WAYS] = {
+        [PLAIN_ONE] = plain_one, [RK_ONE] = rk_one, [PLAIN_ALL] = plain_all, [RK_ALL] = rk_all,
+#ifdef BEFORE
+        [BEFORE_ONE] = before_one, [BEFORE_ALL] = before_all,
+#endif
 #ifdef DPDK
-                                    peer_one, peer_all
+        [PEER_ONE] = peer_one, [PEER_ALL] = peer_all,
 #endif
     };
     static double t[WAYS][ROUNDS];
@@ -246,7 +275,7 @@ static void time_ways(struct memory m, int rules, int huge, const uint32_t *addr
     for (int i = 0; i < ADDRESSES; i += CALL) {
         plain_one(addresses + i, wanted);
 #ifdef DPDK
-        if (memcmp(wanted, theirs + i, sizeof wanted)) fail("an answer differs from rte_lpm_lookup's");
+        if (!same_hops(wanted, theirs + i)) fail("an answer differs from rte_lpm_lookup's");
 #endif
         rk_one(addresses + i, answers);
         if (memcmp(wanted, answers, sizeof wanted)) fail("rk_look_up differs from plain C");
@@ -254,10 +283,11 @@ static void time_ways(struct memory m, int rules, int huge, const uint32_t *addr
         if (memcmp(wanted, answers, sizeof wanted)) fail("rk_look_up_all differs from plain C");
     }
     for (int r = 0; r < ROUNDS; r++)
-        for (int k = 0; k < WAYS && ways[k]; k++) {
+        for (int k = 0; k < WAYS; k++) {
+            if (!ways[k]) continue;
 #ifdef DPDK
-            if (k == 0) load(m.first, m.lng);
-            if (k == 4) load((uint32_t *)peer->tbl24, (uint32_t *)peer->tbl8);
+            if (k == PLAIN_ONE) load(m.first, m.lng);
+            if (k == PEER_ONE) load((uint32_t *)peer->tbl24, (uint32_t *)peer->tbl8);
 #endif
             for (int i = 0; i < ADDRESSES; i += CALL) ways[k](addresses + i, answers);
             double start = now();
@@ -266,10 +296,12 @@ static void time_ways(struct memory m, int rules, int huge, const uint32_t *addr
         }
     const char *one = huge ? "rk_look_up, 2 MB pages" : "rk_look_up, 4 KB pages";
     const char *all = huge ? "rk_look_up_all, 2 MB pages" : "rk_look_up_all, 4 KB pages";
-    row(one, rules, "plain C, same tests", t[1], t[0], 1.25);
-    if (ways[4]) row(one, rules, "rte_lpm_lookup", t[1], t[4], 0);
-    if (ways[5]) row(all, rules, "rte_lpm_lookup_bulk", t[3], t[5], 1.25);
-    row(all, rules, "plain C, no tests", t[3], t[2], 0);
+    row(one, rules, "plain C, same tests", t[RK_ONE], t[PLAIN_ONE], 1.25);
+    if (ways[BEFORE_ONE]) row(one, rules, "before", t[RK_ONE], t[BEFORE_ONE], 1.03);
+    if (ways[PEER_ONE]) row(one, rules, "rte_lpm_lookup", t[RK_ONE], t[PEER_ONE], 0);
+    if (ways[PEER_ALL]) row(all, rules, "rte_lpm_lookup_bulk", t[RK_ALL], t[PEER_ALL], 1.25);
+    if (ways[BEFORE_ALL]) row(all, rules, "before", t[RK_ALL], t[BEFORE_ALL], 1.03);
+    row(all, rules, "plain C, no tests", t[RK_ALL], t[PLAIN_ALL], 0);
     free(lng);
 #ifdef DPDK
     free(mirror), free(theirs);

@@ -14,24 +14,24 @@ static int is_direct(uint32_t cell, uint32_t longest) {
 }
 
 static uint32_t verdict(uint32_t cell, uint32_t longest) {
-    if (cell == 0) return 8u << 16;
-    return is_direct(cell, longest) ? cell / 64 : 4u << 16;
+    if (cell == 0) return 8u << 22;
+    return is_direct(cell, longest) ? cell % 64 << 16 | cell / 64 : 4u << 22;
 }
 
 uint32_t plain_look_up(const uint8_t *first, size_t first_bytes, const uint8_t *long_table, size_t long_bytes, uint32_t base,
                        uint32_t base_length, uint32_t address) {
-    if (first_bytes % 4 || long_bytes % 4) return 1u << 16;
+    if (first_bytes % 4 || long_bytes % 4) return 1u << 22;
     size_t first_cells = first_bytes / 4, long_cells = long_bytes / 4;
-    if (base_length > 24) return 1u << 16;
+    if (base_length > 24) return 1u << 22;
     uint32_t mask = masks[base_length];
-    if ((base & mask) != base) return 1u << 16;
-    if (first_cells != (size_t)1 << (24 - base_length)) return 1u << 16;
-    if (long_cells % 256 || long_cells > 8388608) return 1u << 16;
-    if ((address & mask) != base) return 3u << 16;
+    if ((base & mask) != base) return 1u << 22;
+    if (first_cells != (size_t)1 << (24 - base_length)) return 1u << 22;
+    if (long_cells % 256 || long_cells > 8388608) return 1u << 22;
+    if ((address & mask) != base) return 3u << 22;
     uint32_t cell = ((const uint32_t *)first)[(address - base) / 256];
     if (cell < POINTER) return verdict(cell, 24);
     uint32_t segment = cell - POINTER;
-    if (segment >= long_cells / 256) return 4u << 16;
+    if (segment >= long_cells / 256) return 4u << 22;
     return verdict(((const uint32_t *)long_table)[(size_t)segment * 256 + address % 256], 32);
 }
 
@@ -39,7 +39,7 @@ void plain_look_up_all(const uint32_t *first, const uint32_t *long_table, const 
     for (size_t i = 0; i < count; i++) {
         uint32_t cell = first[addresses[i] >> 8];
         if (cell >= POINTER) cell = long_table[(size_t)(cell - POINTER) * 256 + (addresses[i] & 255)];
-        answers[i] = cell / 64;
+        answers[i] = cell % 64 << 16 | cell / 64;
     }
 }
 

@@ -78,18 +78,18 @@ class Driver:
         return answer[0], answer[1], answer[2], answer[3:], contents
 
     def look_up(self, base, base_length, addresses, on_tables):
-        """(guards, changed, for each address (number, code, hop) as the header takes the number apart)"""
+        """(guards, changed, for each address (number, code, length, hop, prefix) as the header takes the number apart)"""
         count = len(addresses)
         self.send(struct.pack("<c3I%dI" % count, b"l" if on_tables else b"L", base, base_length, count, *addresses))
         answer = struct.unpack("<HH", self.receive(4))
-        return answer[0], answer[1], list(struct.iter_unpack("<III", self.receive(12 * count)))
+        return answer[0], answer[1], list(struct.iter_unpack("<5I", self.receive(20 * count)))
 
     def look_up_all(self, base, base_length, addresses, room, on_tables):
         """(guards, changed, what was returned, the same for each place of the room)"""
         count = len(addresses)
         self.send(struct.pack("<c4I%dI" % count, b"v" if on_tables else b"V", base, base_length, count, room, *addresses))
         answer = struct.unpack("<HHI", self.receive(8))
-        return answer[0], answer[1], answer[2], list(struct.iter_unpack("<III", self.receive(12 * room)))
+        return answer[0], answer[1], answer[2], list(struct.iter_unpack("<5I", self.receive(20 * room)))
 
     def read_record(self, record, expected):
         """(guards, changed, code, update)"""
@@ -206,14 +206,14 @@ LETTERS = {"clear": b"C", "announce": b"A", "withdraw": b"W", "re_home": b"H"}
 KIND_OF = {"announce": 1, "withdraw": 2, "re_home": 3}
 
 
-def packed(code, hop):
-    """Look up's answer in C: "the one number code x 65,536 + hop"."""
-    return code * 65536 + hop
+def packed(code, length, hop):
+    """Look up's answer in C, request [1]: "code x 2^22 + length x 2^16 + hop"."""
+    return code * 2 ** 22 + length * 2 ** 16 + hop
 
 
 def parts(number):
-    """(code, hop)"""
-    return divmod(number, 65536)
+    """(code, length, hop)"""
+    return number // 2 ** 22, number // 2 ** 16 % 64, number % 2 ** 16
 
 
 def update_for(name, address=0, length=0, hop=0):
@@ -386,9 +386,9 @@ class Both:
     # -- look up
 
     def look_up(self, base, base_length, addresses):
-        """Each address by look up (on bytes), and all of them by look up all. Answers the model's (code, hop) of each."""
+        """Each address by look up (on bytes), and all of them by look up all. Answers the model's (code, length, hop) of each."""
         wanted = [model.look_up(self.lent.first, self.lent.long, base, base_length, address) for address in addresses]
-        self.compare_look_ups(base, base_length, addresses, [packed(code, hop) for code, hop in wanted])
+        self.compare_look_ups(base, base_length, addresses, [packed(*answer) for answer in wanted])
         return wanted
 
     def compare_look_ups(self, base, base_length, addresses, wanted):
@@ -420,12 +420,15 @@ class Both:
         wrong = []
         if guards or changed:
             wrong.append("a look up wrote memory: guards %#x, slices changed %#x" % (guards, changed))
-        for address, (got, code, hop), right in zip(addresses, answers, wanted):
+        for address, (got, code, length, hop, prefix), right in zip(addresses, answers, wanted):
             if got != right:
-                wrong.append("%s: library code %d hop %d, model code %d hop %d" % (ip(address), *parts(got), *parts(right)))
-            elif (code, hop) != parts(right):
-                wrong.append("%s: the header takes %d for code %d hop %d, it is code %d hop %d"
-                             % (ip(address), got, code, hop, *parts(right)))
+                wrong.append("%s: library code %d length %d hop %d, model code %d length %d hop %d"
+                             % (ip(address), *parts(got), *parts(right)))
+            elif (code, length, hop) != parts(right):
+                wrong.append("%s: the header takes %d for code %d length %d hop %d, it is code %d length %d hop %d"
+                             % (ip(address), got, code, length, hop, *parts(right)))
+            elif code == 0 and prefix != address - address % 2 ** (32 - length):
+                wrong.append("%s: the header cuts it to %s/%d" % (ip(address), ip(prefix), length))
         if wrong:
             raise Difference("\n  ".join(wrong[:40]))
 
@@ -727,10 +730,10 @@ def histories(both, rng, number):
         here = live_now()
         for address, answer in zip(addresses, both.look_up(base, base_length, addresses)):
             if not model.in_prefix(address, base, base_length):
-                right = (3, 0)
+                right = (3, 0, 0)
             else:
                 found = model.longest_match(here, address)
-                right = (8, 0) if found is None else (0, found[2])
+                right = (8, 0, 0) if found is None else (0, *found[1:])
             if answer != right:
                 raise Difference("look up of %s answers %r, the longest match of the live list is %r"
                                  % (ip(address), answer, right))
@@ -1427,17 +1430,19 @@ def figures(both, rng, number):
     call("clear", (), sizes, (0, 0), [bytes(size) for size in sizes])
     for address, length, hop in [("224.0.0.0", 3, 1), ("128.0.0.0", 2, 2), ("160.0.0.0", 4, 3), ("168.0.0.0", 5, 4)]:
         call("announce", (dotted(address), length, hop), sizes, (0, 2 ** (24 - length)))
-    eight = [("168.0.0.1", 4), ("175.255.255.255", 4), ("167.255.255.255", 3), ("176.0.0.0", 2), ("224.0.0.0", 1),
-             ("192.0.0.0", packed(8, 0)), ("223.255.255.255", packed(8, 0)), ("0.0.0.0", packed(8, 0))]
+    unrouted = packed(8, 0, 0)
+    eight = [("168.0.0.1", packed(0, 5, 4)), ("175.255.255.255", packed(0, 5, 4)), ("167.255.255.255", packed(0, 4, 3)),
+             ("176.0.0.0", packed(0, 2, 2)), ("224.0.0.0", packed(0, 3, 1)),
+             ("192.0.0.0", unrouted), ("223.255.255.255", unrouted), ("0.0.0.0", unrouted)]
     answers([(dotted(address), answer) for address, answer in eight])
     # a /0 under all of them, changed and gone again: it fills exactly what had no route
     empty = cells - 2 ** 21 - 2 ** 22
     call("announce", (0, 0, 6), sizes, (0, empty))
-    answers([(dotted(address), 6 if answer == packed(8, 0) else answer) for address, answer in eight])
+    answers([(dotted(address), packed(0, 0, 6) if answer == unrouted else answer) for address, answer in eight])
     call("announce", (TOP - 1, 32, 10), sizes, (0, 257))
-    answers([(TOP - 1, 10), (TOP - 2, 1)])
+    answers([(TOP - 1, packed(0, 32, 10)), (TOP - 2, packed(0, 3, 1))])
     call("re_home", (0, 0, 7), sizes, (0, empty))
-    answers([(dotted(address), 7 if answer == packed(8, 0) else answer) for address, answer in eight])
+    answers([(dotted(address), packed(0, 0, 7) if answer == unrouted else answer) for address, answer in eight])
     call("withdraw", (0, 0), sizes, (0, empty))
     answers([(dotted(address), answer) for address, answer in eight])
     call("withdraw", (TOP - 1, 32), sizes, (0, 257))
@@ -1636,7 +1641,7 @@ def any_bookings(both, rng, number):
     both.log.append("# damage: " + ", ".join(kind.__name__ for kind in chosen))
 
     def amount_for(address):
-        code, hop = model.look_up(both.lent.first, both.lent.long, base, base_length, address)
+        code, length, hop = model.look_up(both.lent.first, both.lent.long, base, base_length, address)
         return draw_amount(rng, both.octets[hop]) if hop < len(both.octets) else rng.randrange(WORD_TOP)
 
     addresses = case.prefixes.addresses(case.address, case.length, 8)
@@ -1658,7 +1663,7 @@ def any_bookings(both, rng, number):
     routed = [address for address in addresses
               if model.look_up(lent.first, lent.long, base, base_length, address)[0] in (0, 8)]
     one = rng.choice(routed or addresses)
-    rest = max(MOST - both.octets[model.look_up(lent.first, lent.long, base, base_length, one)[1]], 0)
+    rest = max(MOST - both.octets[model.look_up(lent.first, lent.long, base, base_length, one)[2]], 0)
     amounts = [rest // 5] * 8 + [rest - 5 * (rest // 5), 0, 1, WORD_TOP - 1]
     many = [one] * len(amounts)
     many[rng.randrange(len(many))] = rng.choice(addresses)

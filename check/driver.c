@@ -28,8 +28,9 @@
 
      D         contents
      C A W H u code:4 cells:4 guards:2 differing:4 x 7, and with dump the contents of the first four slices
-     L         guards:2 changed:2, and number:4 code:4 hop:4 for each address, the last two as RK_CODE and RK_HOP have them
-     V         guards:2 changed:2 returned:4, and the same three for each place of the room
+     L         guards:2 changed:2, and number:4 code:4 length:4 hop:4 prefix:4 for each address, the last four as RK_CODE,
+               RK_LENGTH, RK_HOP and RK_CUT have them
+     V         guards:2 changed:2 returned:4, and the same five for each place of the room
      R         guards:2 changed:2 code:4 update
      P         guards:2 changed:2 code:4 contents
      Z B       guards:2 changed:2 code:4 octets
@@ -87,7 +88,8 @@ IS(RK_HOPS, 32767);
 enum {
     CELLS_OF_0 = RK_FIRST_CELLS(0), CELLS_OF_12 = RK_FIRST_CELLS(8 | 4), CELLS_OF_24 = RK_FIRST_CELLS(RK_MOST_TERRITORY),
     CELLS_IN_0 = RK_LONG_CELLS(0), CELLS_IN_3 = RK_LONG_CELLS(2 + 1), CELLS_IN_ALL = RK_LONG_CELLS(RK_MOST_SEGMENTS),
-    CODE = RK_CODE(8 * 65536 | 7), HOP = RK_HOP(8 * 65536 | 7)
+    NUMBER = 8 << 22 | 24 << 16, CODE = RK_CODE(NUMBER | 7), LENGTH = RK_LENGTH(NUMBER | 7), HOP = RK_HOP(NUMBER | 7),
+    CUT_TO_0 = RK_CUT(0x12345678, 0), CUT_TO_9 = RK_CUT(0x12340000 | 0x5678, 8 | 1), CUT_TO_32 = RK_CUT(0x12345678, 32)
 };
 IS(CELLS_OF_0, 16777216);
 IS(CELLS_OF_12, 4096);
@@ -96,7 +98,11 @@ IS(CELLS_IN_0, 0);
 IS(CELLS_IN_3, 768);
 IS(CELLS_IN_ALL, 8388608);
 IS(CODE, 8);
+IS(LENGTH, 24);
 IS(HOP, 7);
+IS(CUT_TO_0, 0);
+IS(CUT_TO_9, 0x12000000);
+IS(CUT_TO_32, 0x12345678);
 
 /* ------------------------------------------------------------------------------------------------- what is lent */
 
@@ -149,11 +155,13 @@ static rk_update take_update(void)
     return update;
 }
 
-static void give_number(uint32_t number)
+static void give_answer(uint32_t address, uint32_t number)
 {
     give32(number);
     give32(RK_CODE(number));
+    give32(RK_LENGTH(number));
     give32(RK_HOP(number));
+    give32(RK_CUT(address, RK_LENGTH(number)));
 }
 
 /* ------------------------------------------------------------------------------------------------- slices with guards */
@@ -324,17 +332,18 @@ static void update_of_a_record(void)
 static void look_up(int on_tables)
 {
     uint32_t base = take32(), base_length = take32(), count = take32(), i;
-    uint32_t *numbers = memory(4 * (size_t)count);
+    uint32_t *addresses = memory(4 * (size_t)count), *numbers = memory(4 * (size_t)count);
     const rk_tables t = tables(base, base_length);
-    for (i = 0; i < count; i++) numbers[i] = take32();
+    for (i = 0; i < count; i++) addresses[i] = take32();
     lent_before();
     for (i = 0; i < count; i++)
-        numbers[i] = on_tables ? rk_tables_look_up(&t, numbers[i])
+        numbers[i] = on_tables ? rk_tables_look_up(&t, addresses[i])
                                : rk_look_up(lent[0].start, lent[0].bytes, lent[1].start, lent[1].bytes, base, base_length,
-                                            numbers[i]);
+                                            addresses[i]);
     give16(lent_guards());
     give16(lent_changed());
-    for (i = 0; i < count; i++) give_number(numbers[i]);
+    for (i = 0; i < count; i++) give_answer(addresses[i], numbers[i]);
+    free(addresses);
     free(numbers);
 }
 
@@ -357,7 +366,7 @@ static void look_up_all(int on_tables)
     give16(lent_guards() | (uint32_t)guards_broken(&addresses) << 7 | (uint32_t)guards_broken(&answers) << 8);
     give16(lent_changed() | (uint32_t)changed(&addresses) << 7);
     give32(returned);
-    for (i = 0; i < room; i++) { memcpy(&number, answers.start + 4 * i, 4); give_number(number); }
+    for (i = 0; i < room; i++) { memcpy(&number, answers.start + 4 * i, 4); give_answer(i < count ? a[i] : 0, number); }
 }
 
 static void read_record(void)

@@ -276,25 +276,26 @@ def clear(lent, base, base_length):
 
 
 def look_up(first, long, base, base_length, address):
-    """(refusal number, hop)."""
+    """(refusal number, length, hop). Request [1]: "Look up shall answer the matched prefix length too", and "With any
+    refusal the length is 0"."""
     if wrong_territory(base, base_length) or wrong_sizes_of_tables(first, long, base_length):
-        return 1, 0
+        return 1, 0, 0
     if not in_prefix(address, base, base_length):
-        return 3, 0
+        return 3, 0, 0
     block = (address - base) // 256
     cell = first[block]
     longest = 24
     if is_pointer(cell):
         segment = segment_of(cell)
         if segment >= len(long) // 256:
-            return 4, 0                      # "a pointer to a segment that isn't lent"
+            return 4, 0, 0                   # "a pointer to a segment that isn't lent"
         cell = long[256 * segment + address % 256]
         longest = 32
     if cell == 0:
-        return 8, 0                          # "the deciding cell is 0"
+        return 8, 0, 0                       # "the deciding cell is 0"
     if not is_direct(cell, longest):
-        return 4, 0                          # "the deciding cell is neither 0 nor direct"
-    return 0, cell_hop(cell)
+        return 4, 0, 0                       # "the deciding cell is neither 0 nor direct"
+    return 0, cell_length(cell), cell_hop(cell)
 
 
 def cells_of_bytes(table):
@@ -304,11 +305,11 @@ def cells_of_bytes(table):
 
 
 def look_up_bytes(first, long, base, base_length, address):
-    """Look up as C calls it: "the one number code x 65,536 + hop"."""
+    """Look up as C calls it, request [1]: "the number becomes code x 2^22 + length x 2^16 + hop"."""
     if len(first) % 4 != 0 or len(long) % 4 != 0:
-        return 1 * 65536
-    code, hop = look_up(cells_of_bytes(first), cells_of_bytes(long), base, base_length, address)
-    return code * 65536 + hop
+        return 1 * 2 ** 22
+    code, length, hop = look_up(cells_of_bytes(first), cells_of_bytes(long), base, base_length, address)
+    return code * 2 ** 22 + length * 2 ** 16 + hop
 
 
 # ---------------------------------------------------------------------------------------------------------------------
@@ -559,7 +560,7 @@ def book(first, long, octets, base, base_length, address, amount):
     """The refusal number, or 0. A refused record leaves all words as they are."""
     if wrong_for_records(first, long, octets, base, base_length):
         return 1
-    code, hop = look_up(first, long, base, base_length, address)
+    code, length, hop = look_up(first, long, base, base_length, address)
     if code != 0 and code != 8:
         return code                          # "those of look up except 8"
     if code == 8:

@@ -31,7 +31,7 @@ def zeros(base_length, segments, rules):
     return Lent([0] * 2 ** (24 - base_length), [0] * (256 * segments), [0] * segments, [0] * rules)
 
 
-def hop_of(lent, base, base_length, address):
+def answer_to(lent, base, base_length, address):
     return model.look_up(lent.first, lent.long, base, base_length, address)
 
 
@@ -43,9 +43,10 @@ def eight_lookups():
     live = [(ip("224.0.0.0"), 3, 1), (ip("128.0.0.0"), 2, 2), (ip("160.0.0.0"), 4, 3), (ip("168.0.0.0"), 5, 4)]
     wanted = [("168.0.0.1", 4), ("175.255.255.255", 4), ("167.255.255.255", 3), ("176.0.0.0", 2), ("224.0.0.0", 1),
               ("192.0.0.0", None), ("223.255.255.255", None), ("0.0.0.0", None)]
+    lengths = {1: 3, 2: 2, 3: 4, 4: 5}       # of the prefix that each hop has
     for text, hop in wanted:
         found = model.longest_match(live, ip(text))
-        same("longest match of " + text, found and found[2], hop)
+        same("longest match of " + text, found and found[1:], hop and (lengths[hop], hop))
     # the same through the tables, at T = 0 with all 16,777,216 cells: half a minute, so only on demand
     if "--whole" not in sys.argv:
         return
@@ -53,7 +54,7 @@ def eight_lookups():
     for (address, length, hop), blocks in zip(live, [2 ** 21, 2 ** 22, 2 ** 20, 2 ** 19]):
         same("announce /%d" % length, model.announce(lent, 0, 0, address, length, hop), (0, blocks))
     for text, hop in wanted:
-        same("look up " + text, hop_of(lent, 0, 0, ip(text)), (0, hop) if hop else (8, 0))
+        same("look up " + text, answer_to(lent, 0, 0, ip(text)), (0, lengths[hop], hop) if hop else (8, 0, 0))
 
 
 # ---------------------------------------------------------------------------------------------------------------------
@@ -144,12 +145,12 @@ def edges():
     lent.rules = [0]
     lent.first = [5]
     same("a first cell with hop 0", model.announce(lent, b, 24, b, 24, 1), (4, 0))
-    same("and its look up", model.look_up(lent.first, lent.long, b, 24, b), (4, 0))
-    same("3 before 4", model.look_up(lent.first, lent.long, b, 24, b - 1), (3, 0))
-    same("1 before 3", model.look_up(lent.first + [0], lent.long, b, 24, b - 1), (1, 0))
-    same("bytes, no multiple of 4", model.look_up_bytes(bytes(5), b"", b, 24, b), 65536)
-    same("bytes, no route", model.look_up_bytes(bytes(4), b"", b, 24, b), 8 * 65536)
-    same("bytes, lowest first", model.look_up_bytes(bytes([0x58, 0x01, 0, 0]), b"", b, 24, b), 5)
+    same("and its look up", model.look_up(lent.first, lent.long, b, 24, b), (4, 0, 0))
+    same("3 before 4", model.look_up(lent.first, lent.long, b, 24, b - 1), (3, 0, 0))
+    same("1 before 3", model.look_up(lent.first + [0], lent.long, b, 24, b - 1), (1, 0, 0))
+    same("bytes, no multiple of 4", model.look_up_bytes(bytes(5), b"", b, 24, b), 2 ** 22)
+    same("bytes, no route", model.look_up_bytes(bytes(4), b"", b, 24, b), 8 * 2 ** 22)
+    same("bytes, lowest first", model.look_up_bytes(bytes([0x58, 0x01, 0, 0]), b"", b, 24, b), 24 * 2 ** 16 + 5)
 
 
 def easy_errors():
@@ -158,17 +159,17 @@ def easy_errors():
     same("a /16", model.announce(lent, base, t, ip("10.1.0.0"), 16, 6), (0, 256))
     same("a new /8 leaves the /16 inside", model.announce(lent, base, t, base, 8, 8), (0, 65536 - 256))
     same("a /26 opens", model.announce(lent, base, t, ip("10.1.2.64"), 26, 26), (0, 257))
-    same("it opens with the block's former cell", hop_of(lent, base, t, ip("10.1.2.63")), (0, 6))
-    same("and answers itself", hop_of(lent, base, t, ip("10.1.2.64")), (0, 26))
+    same("it opens with the block's former cell", answer_to(lent, base, t, ip("10.1.2.63")), (0, 16, 6))
+    same("and answers itself", answer_to(lent, base, t, ip("10.1.2.64")), (0, 26, 26))
     same("the /16 re-homed", model.re_home(lent, base, t, ip("10.1.0.0"), 16, 7), (0, 255 + 192))
-    same("also in the open segment", hop_of(lent, base, t, ip("10.1.2.128")), (0, 7))
+    same("also in the open segment", answer_to(lent, base, t, ip("10.1.2.128")), (0, 16, 7))
     same("the /16 withdrawn", model.withdraw(lent, base, t, ip("10.1.0.0"), 16), (0, 255 + 192))
-    same("shows the /8 again", hop_of(lent, base, t, ip("10.1.9.9")), (0, 8))
-    same("in the segment too", hop_of(lent, base, t, ip("10.1.2.128")), (0, 8))
+    same("shows the /8 again", answer_to(lent, base, t, ip("10.1.9.9")), (0, 8, 8))
+    same("in the segment too", answer_to(lent, base, t, ip("10.1.2.128")), (0, 8, 8))
     # the /0 route is not "no route": no territory but T = 0 takes a /0, so the cells are set by hand
     cells = [model.direct(9, 0)] + [0] * 255
-    same("a /0 route", model.look_up(cells, [], ip("1.2.0.0"), 16, ip("1.2.0.1")), (0, 9))
-    same("no route", model.look_up(cells, [], ip("1.2.0.0"), 16, ip("1.2.1.0")), (8, 0))
+    same("a /0 route", model.look_up(cells, [], ip("1.2.0.0"), 16, ip("1.2.0.1")), (0, 0, 9))
+    same("no route", model.look_up(cells, [], ip("1.2.0.0"), 16, ip("1.2.1.0")), (8, 0, 0))
 
 
 # ---------------------------------------------------------------------------------------------------------------------

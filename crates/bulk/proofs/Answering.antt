@@ -12,24 +12,23 @@ use Rattle.prefix.specs.declared.Prefix.{Prefix}
 use Rattle.prefix.specs.Prefixes.{Contains}
 use Rattle.prefix.proofs.Prefixes.{contains?, own}
 use Rattle.prefix.proofs.Spans.{some-block}
+use Rattle.prefix.proofs.Inside.{block-from, inside?}
 use Rattle.cells.specs.Cells.{pointerBit}
 use Rattle.cells.specs.Memory.{lentToRead}
 use Rattle.lookup.specs.Lookup.{refused, verdictOf, saysOf, lookUp, packed}
 use Rattle.lookup.specs.inner.Standing.{standingOf}
-use Rattle.prefix.specs.Geometry.{width, blockSize, blockOf}
+use Rattle.prefix.specs.Geometry.{width, blockSize, blockOf, blockFrom}
 use Rattle.cells.proofs.Lending.{LentToRead, lentToRead?}
-use Rattle.lookup.proofs.Reading.{goes-on}
+use Rattle.lookup.proofs.Reading.{may-stand, goes-on}
 use Rattle.lookup.proofs.Answers.{decides}
 use Rattle.bulk.specs.All.{Outcome, answerOf, allOf}
-use Rattle.bulk.specs.inner.Passes.{blockFrom, placeOf, fetchedOf, verdictOrMarked, saidOf, placedAll, fetchedAll, saidAll}
-use Rattle.bulk.proofs.Inside.{block-from, inside?}
+use Rattle.bulk.specs.inner.Passes.{placeOf, fetchedOf, verdictOrMarked, saidOf, placedAll, fetchedAll, saidAll}
 
 -- ---- what was tested
 
 -- the territory's own address stands where what is lent is right
-pub not-lent : (first long : ℕ) (t : Prefix) → (standingOf first long t (t .address) ≡ 0 → ⊥) → LentToRead first long t → ⊥
-unfolding standingOf
-not-lent first long t n l = n (cond-on _ _ (lentToRead? first long t) l ∙ cond-on _ _ (contains? t (t .address)) (own t))
+pub not-lent : (first long : ℕ) (t : Prefix) → (standingOf 1 first long t (t .address) ≡ 0 → ⊥) → LentToRead first long t → ⊥
+not-lent first long t n l = n (may-stand (record { lent = l; inside = own t }))
 
 module _ (first long : List ℕ) (t : Prefix) (addresses answers : List ℕ) where
   -- what a call asks

@@ -1,4 +1,3 @@
 -- Why the passes answer what look up answers, lower laws first; `OneOutcome` says that the call's contract leaves one outcome.
-mod Inside
 pub mod Answering
 mod OneOutcome

@@ -5,7 +5,7 @@ ghost use mathlib.Core.Path.{_≡_};
 ghost use Prim.Native.Nat.{ℕ, _<_};
 ghost use lib.ListN.{length, getD};
 ghost use Rattle.bulk.specs.All.{allOf};
-ghost use Rattle.bulk.specs.inner.Passes.{blockFrom, placeOf, fetchedOf, verdictOrMarked, saidOf, placedAll, fetchedAll, saidAll};
+ghost use Rattle.bulk.specs.inner.Passes.{placeOf, fetchedOf, verdictOrMarked, saidOf, placedAll, fetchedAll, saidAll};
 use cells::cell::Cell;
 use lookup::look::Answer;
 use lookup::look::says;
@@ -13,20 +13,13 @@ use lookup::look::standing;
 use lookup::look::verdict;
 use prefix::Prefix;
 use prefix::geometry::Block;
-
-// The block of an address, counted from the base on. An address before the base comes out past every block of the territory, so one
-// test tells whether it is inside.
-fn block(base: u32, address: u32) -> u32
-    ensures { λ r. ⌜ r ≡ blockFrom base address ⌝ }
-{
-    std::num::wrapping_sub_u32(address, base) / Block::SIZE
-}
+use prefix::geometry::block_from;
 
 // Where the first table is read for an address: outside the territory at block 0, which is always there.
 fn place(base: u32, blocks: u32, address: u32) -> u32
     ensures { λ r. ⌜ r ≡ placeOf base blocks address ⌝ }
 {
-    let block = block(base, address);
+    let block = block_from(base, address);
     if block < blocks { block } else { 0 }
 }
 
@@ -57,7 +50,7 @@ fn said(base: u32, blocks: u32, address: u32, word: u32) -> u32
     ensures { λ r. ⌜ r ≡ saidOf base blocks address word ⌝ }
 {
     let number = verdict_or_marked(word);
-    if block(base, address) < blocks {
+    if block_from(base, address) < blocks {
         number
     } else {
         Answer::OUTSIDE
@@ -119,7 +112,7 @@ pub fn look_up_all(
 {
     let base = territory.address;
     // The territory's own address is in it: what can fail is what is lent.
-    if standing(first.len(), long.len(), territory, base) != 0 {
+    if standing(1, first.len(), long.len(), territory, base) != 0 {
         return 1;
     }
     if addresses.len() != answers.len() {

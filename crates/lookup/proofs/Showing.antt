@@ -46,7 +46,7 @@ module _ (first long : List ℕ) (t : Prefix) (a : ℕ) where
   unfolding showCode
   shows z =
       let read =
-      by-eq (standingOf (length first) (length long) t a) 0 (stands refl)
+      by-eq (standingOf 1 (length first) (length long) t a) 0 (stands refl)
       (λ n. absurd (n (stops-at (λ k. k) (length first) (length long) t a _ _ refl n ∙ z))) in
       record { stands = read; lent = λ s. omega (arith, z, refuses read s) }
 

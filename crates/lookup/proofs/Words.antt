@@ -1,14 +1,18 @@
 -- The words that bytes spell: how many there are, the one at an index, and the look up on them. Assumes nothing.
-use mathlib.Core.Path.{_≡_, refl, sym, ap, ap₂}
+use mathlib.Core.Path.{_≡_, refl, sym, ap, _∙_}
+use mathlib.Core.Bool.{Bool, _&&_}
 use mathlib.Core.List.{List, [], _∷_}
 use Prim.Native.Nat.{ℕ, zero, suc, _+_, _*_, _/_, _%_, _<_}
 use native.Mathlib.Omega.{arith}
+use lib.Dec.{eqb}
 use lib.ListN.{length, getD}
-use Rattle.ground.proofs.Tests.{eqb?, and?, cond-on, cond-off}
+use Rattle.ground.proofs.Tests.{Decides, eqb?, and?, iff?, stops, same-test, by-test, cond-on, cond-off}
 use Rattle.prefix.specs.declared.Prefix.{Prefix}
+use Rattle.prefix.specs.Prefixes.{contains}
 use Rattle.lookup.specs.Lookup.{refused, lookUp, packed}
 use Rattle.lookup.specs.inner.Standing.{standingOf}
 use Rattle.lookup.specs.Bytes.{spelt, words, lookUpBytes}
+use Rattle.lookup.proofs.Reading.{Stands, number, lentIn?, stands, stops-at}
 
 pub length-words : (s : List ℕ) → length (words s) ≡ length s / 4
 unfolding words
@@ -41,14 +45,54 @@ getD-words [] i h = absurd (omega arith)
 -- ---- the look up on them
 
 module _ (first long : List ℕ) (t : Prefix) (a : ℕ) where
-  -- a length is no multiple of 4
-  pub not-whole : ((length first % 4 ≡ 0) × (length long % 4 ≡ 0) → ⊥) → packed (refused 1) ≡ lookUpBytes first long t a
-  unfolding lookUpBytes
-  not-whole n = sym (ap packed (cond-off _ _ (and? (eqb? (length first % 4) 0) (eqb? (length long % 4) 0)) n))
+  -- both tables are whole numbers of cells
+  abbrev Whole : Type 0
+  Whole = (length first % 4 ≡ 0) × (length long % 4 ≡ 0)
 
-  pub whole : length first % 4 ≡ 0 → length long % 4 ≡ 0 → packed (lookUp (words first) (words long) t a) ≡ lookUpBytes first long t a
-  unfolding lookUpBytes
-  whole f l = sym (ap packed (cond-on _ _ (and? (eqb? (length first % 4) 0) (eqb? (length long % 4) 0)) (f, l)))
+  whole? : Decides Whole (eqb (length first % 4) 0 && eqb (length long % 4) 0)
+  whole? = and? (eqb? (length first % 4) 0) (eqb? (length long % 4) 0)
 
-  pub standing-words : standingOf (length first / 4) (length long / 4) t a ≡ standingOf (length (words first)) (length (words long)) t a
-  standing-words = sym (ap₂ (λ (f l : ℕ). standingOf f l t a) (length-words first) (length-words long))
+  -- then the tests on bytes are those on the words that they spell
+  in-words : Whole → standingOf 4 (length first) (length long) t a ≡ standingOf 1 (length (words first)) (length (words long)) t a
+  unfolding standingOf
+  in-words w =
+      let f = length-words first in
+      let l = length-words long in
+      ap (λ (x : Bool). number x (contains t a))
+      (same-test (lentIn? 4 (length first) (length long) t)
+      (iff? (lentIn? 1 (length (words first)) (length (words long)) t)
+      (λ r. record {
+        territory = r .territory;
+        parts-a-block = omega (arith, w, r .parts-a-block);
+        whole-segments = omega (arith, w, r .whole-segments);
+        not-too-many = omega (arith, w, r .not-too-many);
+      })
+      (λ r. record {
+        territory = r .territory;
+        parts-a-block = omega (arith, r .parts-a-block);
+        whole-segments = omega (arith, r .whole-segments);
+        not-too-many = omega (arith, r .not-too-many);
+      })))
+
+  -- and else they fail
+  not-in-words : (Whole → ⊥) → standingOf 4 (length first) (length long) t a ≡ 1
+  unfolding standingOf
+  not-in-words n =
+      ap (λ (x : Bool). number x (contains t a))
+      (stops (lentIn? 4 (length first) (length long) t) (λ r. n (omega (arith, r .parts-a-block), omega (arith, r .whole-segments))))
+
+  pub answers-words : Whole → packed (lookUp (words first) (words long) t a) ≡ lookUpBytes first long t a
+  unfolding lookUpBytes
+  answers-words w = sym (ap packed (cond-on _ _ whole? w))
+
+  module _ (code : ℕ) (e : code ≡ standingOf 4 (length first) (length long) t a) where
+    -- a call may read the words
+    pub words-stand : code ≡ 0 → Whole × Stands (length (words first)) (length (words long)) t a
+    words-stand z = by-test whole? (λ w. (w, stands (e ∙ in-words w) z)) (λ n. absurd (omega (arith, not-in-words n)))
+
+    -- or it is refused
+    pub bytes-stop : (code ≡ 0 → ⊥) → packed (refused code) ≡ lookUpBytes first long t a
+    unfolding lookUpBytes lookUp
+    bytes-stop m =
+        by-test whole? (λ w. ap packed (stops-at refused _ _ _ _ _ code (e ∙ in-words w) m) ∙ answers-words w)
+        (λ n. ap (λ (k : ℕ). packed (refused k)) (e ∙ not-in-words n) ∙ sym (ap packed (cond-off _ _ whole? n)))

@@ -52,13 +52,7 @@ fn says_bytes(long: &[u8], low: usize, cell: u32) -> u32
 pub fn look_up_bytes(first: &[u8], long: &[u8], territory: Prefix, address: u32) -> u32
     ensures { λ r. ⌜ r ≡ lookUpBytes (now (first .entry)) (now (long .entry)) territory address ⌝ }
 {
-    if first.len() % 4 != 0 {
-        return Answer::NOT_LENT;
-    }
-    if long.len() % 4 != 0 {
-        return Answer::NOT_LENT;
-    }
-    let code = standing(first.len() / 4, long.len() / 4, territory, address);
+    let code = standing(4, first.len(), long.len(), territory, address);
     if code != 0 {
         return Answer::refusal(code);
     }

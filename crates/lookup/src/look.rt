@@ -1,6 +1,6 @@
 // Look up: the answer to an address, from the first and the long table.
 ghost use mathlib.Core.Path.{_≡_};
-ghost use Prim.Native.Nat.{_<_, _^_};
+ghost use Prim.Native.Nat.{_<_, _≤_, _^_};
 ghost use Rattle.prefix.specs.Geometry.{blockSize};
 ghost use Rattle.lookup.specs.Lookup.{refused, found, packed, unpackedOf, directOrDamage, verdictOf, saysOf, lookUp};
 ghost use Rattle.lookup.specs.inner.Standing.{standingOf};
@@ -8,6 +8,7 @@ use cells::cell::Cell;
 use cells::sizes::Most;
 use prefix::Prefix;
 use prefix::geometry::Block;
+use prefix::geometry::block_from;
 use prefix::geometry::block_of;
 use prefix::geometry::blocks_of;
 
@@ -27,8 +28,6 @@ impl Answer {
     const LENGTHS: u32 = 64;
     // What one more in the code adds.
     const CODE: u32 = Answer::LENGTHS * Answer::LENGTH;
-    // Refusal 1, what is lent is not right.
-    pub const NOT_LENT: u32 = Answer::CODE;
     // Refusal 3, the address is outside the territory.
     pub const OUTSIDE: u32 = 3 * Answer::CODE;
     // Refusal 4, damage.
@@ -63,10 +62,11 @@ impl Answer {
     }
 }
 
-// 0 where the numbers of cells lent are right and the address is in the territory, else refusal 1 or 3. The bits after the length
-// are cleared once for both tests: an address of the territory cleared is the territory's own.
-pub fn standing(first: usize, long: usize, territory: Prefix, address: u32) -> u32
-    ensures { λ r. ⌜ r ≡ standingOf first long territory address ⌝ }
+// 0 where what is lent is right and the address is in the territory, else refusal 1 or 3. The tables are counted in cells, unit 1, or in
+// bytes, unit 4: a table that is no whole number of cells has no right number of bytes.
+pub fn standing(unit: usize, first: usize, long: usize, territory: Prefix, address: u32) -> u32
+    requires { ⌜ (0 < unit) × (unit ≤ 4) ⌝ }
+    ensures { λ r. ⌜ r ≡ standingOf unit first long territory address ⌝ }
 {
     let base = territory.address;
     let length = territory.length;
@@ -76,16 +76,17 @@ pub fn standing(first: usize, long: usize, territory: Prefix, address: u32) -> u
     if prefix::cleared(base, length) != base {
         return 1;
     }
-    if first != blocks_of(length) {
+    let blocks = blocks_of(length);
+    if first != unit * blocks {
         return 1;
     }
-    if long % Block::CELLS != 0 {
+    if long % (unit * Block::CELLS) != 0 {
         return 1;
     }
-    if Most::LONG < long {
+    if unit * Most::LONG < long {
         return 1;
     }
-    if prefix::cleared(address, length) != base {
+    if blocks <= block_from(base, address) as usize {
         return 3;
     }
     0
@@ -133,7 +134,7 @@ pub fn says(long: &[u32], low: usize, cell: u32) -> u32
 pub fn look_up(first: &[u32], long: &[u32], territory: Prefix, address: u32) -> Answer
     ensures { λ r. ⌜ r ≡ lookUp (now (first .entry)) (now (long .entry)) territory address ⌝ }
 {
-    let code = standing(first.len(), long.len(), territory, address);
+    let code = standing(1, first.len(), long.len(), territory, address);
     if code != 0 {
         return Answer {
             code,

@@ -11,7 +11,7 @@ use prefix::geometry::block_of;
 pub fn show_code(first: &[u32], long: &[u32], territory: Prefix, address: u32) -> u32
     ensures { λ r. ⌜ r ≡ showCode (now (first .entry)) (now (long .entry)) territory address ⌝ }
 {
-    let code = standing(first.len(), long.len(), territory, address);
+    let code = standing(1, first.len(), long.len(), territory, address);
     if code != 0 {
         return code;
     }

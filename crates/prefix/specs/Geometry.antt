@@ -1,5 +1,5 @@
 -- The geometry of the tables: the width of the first one, blocks, the territory, and the blocks that a prefix touches in it. Assumes nothing.
-use Prim.Native.Nat.{ℕ, _+_, _-_, _*_, _/_, _^_, _≤_}
+use Prim.Native.Nat.{ℕ, _+_, _-_, _*_, _/_, _%_, _^_, _≤_}
 use mathlib.Core.Bool.{Bool, _&&_}
 use lib.Dec.{leb}
 use Rattle.prefix.specs.declared.Prefix.{Prefix}
@@ -34,6 +34,10 @@ blocks p = runs width p
 -- the number of the block that holds the address, within the territory
 abbrev pub blockOf : Prefix → ℕ → ℕ
 blockOf t a = (a - t .address) / blockSize
+
+-- the same from the base on and round the end of the addresses: below `blocks` exactly for an address of the territory
+abbrev pub blockFrom : ℕ → ℕ → ℕ
+blockFrom base address = (address + 2 ^ 32 - base) % 2 ^ 32 / blockSize
 
 -- the first address of the block k of the territory t
 abbrev pub blockStart : Prefix → ℕ → ℕ

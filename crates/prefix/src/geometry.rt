@@ -1,7 +1,7 @@
 // The geometry of the tables: the width of the first one, blocks, and the blocks that a prefix touches in a territory.
 ghost use mathlib.Core.Path.{_≡_};
 ghost use Prim.Native.Nat.{_-_, _^_, _<_, _≤_};
-ghost use Rattle.prefix.specs.Geometry.{width, blockOf, blockStart, touched};
+ghost use Rattle.prefix.specs.Geometry.{width, blockOf, blockFrom, blockStart, touched};
 use crate::Prefix;
 use crate::span_of;
 
@@ -39,6 +39,14 @@ pub fn block_of(territory: Prefix, address: u32) -> usize
     ensures { λ r. ⌜ r ≡ blockOf territory address ⌝ }
 {
     ((address - territory.address) / Block::SIZE) as usize
+}
+
+// The same for any address, counted from the base on. One before the base comes out past every block of the territory, so one test tells
+// whether it is inside.
+pub fn block_from(base: u32, address: u32) -> u32
+    ensures { λ r. ⌜ r ≡ blockFrom base address ⌝ }
+{
+    std::num::wrapping_sub_u32(address, base) / Block::SIZE
 }
 
 // The first address of a block.

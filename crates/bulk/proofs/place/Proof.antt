@@ -2,7 +2,8 @@
 use mathlib.Core.Path.{sym, _∙_}
 use native.Mathlib.Omega.{arith}
 use Rattle.ground.proofs.Tests.{ltb?, cond-on, cond-off}
-use Rattle.bulk.specs.inner.Passes.{blockFrom, placeOf}
+use Rattle.prefix.specs.Geometry.{blockFrom}
+use Rattle.bulk.specs.inner.Passes.{placeOf}
 use borrow.Author.Needs.{needs}
 use Rattle.bulk.proofs.place.Statement.{statement}
 use Rattle.bulk.proofs.place.Tie as tie
@@ -11,7 +12,7 @@ returns : tie.Need-returns
 unfolding placeOf
 returns c =
     let s = c .before .before .args in
-    c .before .block .ensures ∙ sym (cond-on _ _ (ltb? (blockFrom (s .base) (s .address)) (s .blocks)) (omega arith))
+    c .before .block-from .ensures ∙ sym (cond-on _ _ (ltb? (blockFrom (s .base) (s .address)) (s .blocks)) (omega arith))
 
 returns-2 : tie.Need-returns-2
 unfolding placeOf

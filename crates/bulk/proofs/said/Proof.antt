@@ -2,7 +2,8 @@
 use mathlib.Core.Path.{sym, _∙_}
 use native.Mathlib.Omega.{arith}
 use Rattle.ground.proofs.Tests.{ltb?, cond-on, cond-off}
-use Rattle.bulk.specs.inner.Passes.{blockFrom, saidOf}
+use Rattle.prefix.specs.Geometry.{blockFrom}
+use Rattle.bulk.specs.inner.Passes.{saidOf}
 use borrow.Author.Needs.{needs}
 use Rattle.bulk.proofs.said.Statement.{statement}
 use Rattle.bulk.proofs.said.Tie as tie

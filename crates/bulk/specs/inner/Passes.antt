@@ -1,18 +1,14 @@
 -- What each pass makes of one answer, and of all. The room for the answers holds in turn a place in the first table, the cell there or the
 -- marked answer where that is a pointer, and the answer. Assumes nothing.
-use Prim.Native.Nat.{ℕ, _+_, _-_, _/_, _%_, _^_}
+use Prim.Native.Nat.{ℕ, _+_, _-_, _%_}
 use mathlib.Core.Bool.{cond}
 use mathlib.Core.List.{List}
 use lib.Dec.{ltb}
 use lib.ListN.{getD}
 use Rattle.ground.specs.Lists.{mapAt}
-use Rattle.prefix.specs.Geometry.{width, blockSize}
+use Rattle.prefix.specs.Geometry.{width, blockSize, blockFrom}
 use Rattle.cells.specs.Cells.{pointerBit, isPointer}
 use Rattle.lookup.specs.Lookup.{refused, verdictOf, saysOf, packed}
-
--- the block of an address, counted from the base on and round the end of the addresses: below `blocks` exactly in the territory
-abbrev pub blockFrom : ℕ → ℕ → ℕ
-blockFrom base address = (address + 2 ^ 32 - base) % 2 ^ 32 / blockSize
 
 -- the block where the territory has it, else 0
 unfoldable pub placeOf : ℕ → ℕ → ℕ → ℕ
