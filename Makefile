@@ -8,7 +8,7 @@ SEED ?= 1
 LIBRARY = target/staticlib/librakmolthi.a
 PROGRAM = target/bin/collector
 COMMAND = target/bin/rakmolthi
-COMMAND_SOURCES = programs/rakmolthi.c programs/sheet.c programs/text.c
+COMMAND_SOURCES = programs/rakmolthi.c programs/sheet.c programs/tables.c programs/text.c
 SAMPLE = --territory 10.16.0.0/12 --updates examples/sheet/updates --flows examples/sheet/flows.txt --cents examples/sheet/cents.txt
 SOURCES = crates.txt $(shell find crates -name '*.rt')
 CFLAGS = -std=c99 -O1 -Wall -Wextra -pedantic -Iinclude
@@ -57,7 +57,7 @@ $(PROGRAM): programs/collector.c $(SOURCES)
 ## command        the command over the library: target/bin/rakmolthi
 command: $(COMMAND)
 
-$(COMMAND): $(COMMAND_SOURCES) programs/text.h programs/words.h include/rakmolthi.h $(LIBRARY)
+$(COMMAND): $(COMMAND_SOURCES) programs/tables.h programs/text.h programs/words.h include/rakmolthi.h $(LIBRARY)
 	@mkdir -p target/bin
 	@tools/x86-cc $(CFLAGS) -static -o $@ $(COMMAND_SOURCES) $(LIBRARY)
 
