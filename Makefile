@@ -8,7 +8,7 @@ SEED ?= 1
 LIBRARY = target/staticlib/librakmolthi.a
 PROGRAM = target/bin/collector
 COMMAND = target/bin/rakmolthi
-COMMAND_SOURCES = programs/rakmolthi.c programs/sheet.c programs/tables.c programs/text.c
+COMMAND_SOURCES = programs/rakmolthi.c programs/look_up.c programs/sheet.c programs/tables.c programs/text.c
 SAMPLE = --territory 10.16.0.0/12 --updates examples/sheet/updates --flows examples/sheet/flows.txt --cents examples/sheet/cents.txt
 SOURCES = crates.txt $(shell find crates -name '*.rt')
 CFLAGS = -std=c99 -O1 -Wall -Wextra -pedantic -Iinclude

@@ -18,8 +18,7 @@ static const char help[] =
     "first; then those with octets, the highest rate first; a tie goes to the lower hop. Then come the octets with no route, the\n"
     "octets refused with each number, and the sum: every octet of the input is in one of the lines above it.\n"
     "\n"
-    "  --territory PREFIX  the addresses that are judged, 0.0.0.0/0 for all: a length of 0 to 24, and no bit set after it\n"
-    "  --updates FILE      the routes: a stream of update records of 15 bytes, with the serials 0, 1, 2 and so on\n"
+    TABLES_HELP
     "  --flows FILE        the traffic: lines `address octets`\n"
     "  --cents FILE        the cost: lines `hop cents name`, a hop in one line only; the name may be left out, or be -\n"
     "  --csv               the header `hop,name,octets,cents,rate` and the same lines; `no traffic` stands in the cell, a rate has the\n"
@@ -108,7 +107,7 @@ static int book(books *b) {
 static int take_flow(books *b, char *line) {
     int number;
     if (!take_address(&line, &b->addresses[b->count]))
-        return say_line(&b->text, "there is no IPv4 address in front: four numbers of 0 to 255 with dots, and no 0 before another digit");
+        return say_line(&b->text, "there is no IPv4 address in front: " AN_ADDRESS);
     number = take_gap(&line) ? take_number(&line, &b->amounts[b->count]) : 0;
     if (number == 0) return say_line(&b->text, "there is no whole number of octets after the address");
     if (number < 0) return say_line(&b->text, "the octets are above 2^64 - 1");

@@ -17,6 +17,11 @@ typedef struct {
     int valued, count; /* of the options: how many have a value, and how many there are */
 } usage;
 
+/* What a manual says of the two options that every word over the tables has. */
+#define TABLES_HELP \
+    "  --territory PREFIX  the addresses that are judged, 0.0.0.0/0 for all: a length of 0 to 24, and no bit set after it\n" \
+    "  --updates FILE      the routes: a stream of update records of 15 bytes, with the serials 0, 1, 2 and so on\n"
+
 /* No exit status: the command line is right, and the word goes on. */
 enum { GO_ON = -1 };
 

@@ -58,6 +58,9 @@ void text_close(text *t);
  */
 int text_next(text *t, char **line);
 
+/* What an address is, for messages and manuals. */
+#define AN_ADDRESS "four numbers of 0 to 255 with dots, and no 0 before another digit"
+
 /* Each takes what it names off the front of *at. 0: it is not there, and *at stays. */
 int take_number(char **at, uint64_t *number); /* -1: it is there, and has more than 64 bits */
 int take_address(char **at, uint32_t *address);
