@@ -71,7 +71,8 @@ static int take_records(rk_tables *t, FILE *file, const char *as) {
         rk_reading reading = rk_read_record(record, got, (uint32_t)place);
         rk_report report;
         if (reading.code != RK_OK)
-            return say("%s: record %lu, counted from 0, is refused with %u: %s", as, place, (unsigned)reading.code, reading_words(reading.code));
+            return say("%s: record %lu, counted from 0, is refused with %u: %s", as, place, (unsigned)reading.code,
+                       reading_words(reading.code));
         report = rk_tables_update(t, reading.update);
         if (report.code >= CODES) return say("%s: record %lu, counted from 0: the answer %u is unknown", as, place, (unsigned)report.code);
         counts[report.code]++;
