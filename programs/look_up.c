@@ -12,7 +12,8 @@
 static const char help[] =
     "rakmolthi look-up --territory PREFIX --updates FILE [ADDRESS...]\n"
     "\n"
-    "Answers each address with a line, in the order given: the hop of the longest live prefix that contains it, and that prefix.\n"
+    "Answers each address with a line, in the order given: the hop of the longest live prefix that contains it and that\n"
+    "prefix, or why there is none.\n"
     "\n"
     "  10.16.3.200 hop 12 by 10.16.3.128/25\n"
     "  10.28.0.1 no route\n"
@@ -28,8 +29,7 @@ static const char help[] =
     "on. A record that can't be read is named with its place in the stream; then there are no answers. An address that can't be read\n"
     "is named on standard error, one of standard input with its line, and the others are answered. A line of more than 4096 bytes,\n"
     "one with a zero byte and a last line that does not end are named too, and end the run.\n"
-    "Exit status: 0 where all input was read and every address answered, be it with `no route`; 1 where not; 2 for a wrong command\n"
-    "line.\n";
+    "Exit status: 0 where all input was read and every address answered, `no route` too; 1 where not; 2 for a wrong command line.\n";
 
 enum { ADDRESS_ROOM = 16 };
 
