@@ -1,5 +1,5 @@
 # make help says what can be made: it prints the lines below that begin with ##.
-.PHONY: run sheet help test library program command c-check streams example command-check install soak bench valgrind clean
+.PHONY: run sheet look-up help test library program command c-check streams example command-check install soak bench valgrind clean
 
 PREFIX ?= /usr/local
 SECONDS ?= 600
@@ -8,8 +8,10 @@ SEED ?= 1
 LIBRARY = target/staticlib/librakmolthi.a
 PROGRAM = target/bin/collector
 COMMAND = target/bin/rakmolthi
-COMMAND_SOURCES = programs/rakmolthi.c programs/sheet.c programs/text.c
-SAMPLE = --territory 10.16.0.0/12 --updates examples/sheet/updates --flows examples/sheet/flows.txt --cents examples/sheet/cents.txt
+COMMAND_SOURCES = programs/rakmolthi.c programs/look_up.c programs/sheet.c programs/tables.c programs/text.c
+ROUTES = --territory 10.16.0.0/12 --updates examples/sheet/updates
+SAMPLE = $(ROUTES) --flows examples/sheet/flows.txt --cents examples/sheet/cents.txt
+ADDRESSES = 10.16.3.200 10.16.3.1 10.16.4.1 10.17.0.1 10.28.0.1 10.32.0.1
 SOURCES = crates.txt $(shell find crates -name '*.rt')
 CFLAGS = -std=c99 -O1 -Wall -Wextra -pedantic -Iinclude
 
@@ -26,6 +28,13 @@ sheet:
 	@mkdir -p target
 	@$(MAKE) --no-print-directory command >target/sheet.log 2>&1 || { tail -20 target/sheet.log; exit 1; }
 	@tools/x86-run $(COMMAND) sheet $(SAMPLE)
+
+## look-up        which prefix decides each sample address
+look-up:
+	@[ -x $(COMMAND) ] || echo 'make look-up: the library is proved and the command built first; that takes some minutes' >&2
+	@mkdir -p target
+	@$(MAKE) --no-print-directory command >target/look-up.log 2>&1 || { tail -20 target/look-up.log; exit 1; }
+	@tools/x86-run $(COMMAND) look-up $(ROUTES) $(ADDRESSES)
 
 ## help           these lines
 help:
@@ -57,7 +66,7 @@ $(PROGRAM): programs/collector.c $(SOURCES)
 ## command        the command over the library: target/bin/rakmolthi
 command: $(COMMAND)
 
-$(COMMAND): $(COMMAND_SOURCES) programs/text.h programs/words.h include/rakmolthi.h $(LIBRARY)
+$(COMMAND): $(COMMAND_SOURCES) programs/tables.h programs/text.h programs/words.h include/rakmolthi.h $(LIBRARY)
 	@mkdir -p target/bin
 	@tools/x86-cc $(CFLAGS) -static -o $@ $(COMMAND_SOURCES) $(LIBRARY)
 
@@ -92,7 +101,10 @@ command-check: command
 	@cmp target/c/sheet.txt examples/sheet/sheet.txt
 	@tools/x86-run $(COMMAND) sheet $(SAMPLE) --csv 2>target/c/sheet.err >target/c/sheet.csv
 	@cmp target/c/sheet.csv examples/sheet/sheet.csv
+	@tools/x86-run $(COMMAND) look-up $(ROUTES) $(ADDRESSES) 2>target/c/look-up.err >target/c/look-up.txt
+	@cmp target/c/look-up.txt examples/look-up.txt
 	@python3 programs/test-sheet tools/x86-run $(COMMAND)
+	@python3 programs/test-look-up tools/x86-run $(COMMAND)
 
 ## install        the library, the header and the command, under PREFIX=/usr/local
 install: library command

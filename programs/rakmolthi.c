@@ -12,6 +12,7 @@ static const struct {
     int (*run)(int argc, char **argv);
 } words[] = {
     {"sheet", "the cost sheet: what each upstream carried and what it costs, dearest first", sheet},
+    {"look-up", "which upstream an address goes by, and which prefix decides it", look_up},
 };
 
 enum { WORDS = sizeof words / sizeof *words };

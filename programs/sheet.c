@@ -2,11 +2,11 @@
  * The word sheet: the month's cost sheet from update records, flows and cents. Look-ups, sums for a hop, rates and their order are the
  * library's; what it is lent, what it is fed and how its answers look on paper is here.
  */
-#include <errno.h>
 #include <stdlib.h>
 #include <string.h>
 
 #include "rakmolthi.h"
+#include "tables.h"
 #include "text.h"
 #include "words.h"
 
@@ -18,8 +18,7 @@ static const char help[] =
     "first; then those with octets, the highest rate first; a tie goes to the lower hop. Then come the octets with no route, the\n"
     "octets refused with each number, and the sum: every octet of the input is in one of the lines above it.\n"
     "\n"
-    "  --territory PREFIX  the addresses that are judged, 0.0.0.0/0 for all: a length of 0 to 24, and no bit set after it\n"
-    "  --updates FILE      the routes: a stream of update records of 15 bytes, with the serials 0, 1, 2 and so on\n"
+    TABLES_HELP
     "  --flows FILE        the traffic: lines `address octets`\n"
     "  --cents FILE        the cost: lines `hop cents name`, a hop in one line only; the name may be left out, or be -\n"
     "  --csv               the header `hop,name,octets,cents,rate` and the same lines; `no traffic` stands in the cell, a rate has the\n"
@@ -45,9 +44,6 @@ static const char help[] =
 /* The flows of one call. */
 enum { BATCH = 65536 };
 
-/* The refusals of rakmolthi.h are below this, so they are counted in arrays. */
-enum { CODES = 32 };
-
 /* 2^53: where there are more, a double may not hold the cents, and the library refuses them. */
 #define CENTS_TOP (UINT64_C(1) << 53)
 
@@ -68,71 +64,19 @@ typedef struct {
     size_t count, batches;
 } books;
 
-static int misused(const char *option, const char *what) {
-    return say("sheet: %s %s; rakmolthi sheet --help says more", option, what), MISUSED;
-}
-
-static int lend(books *b, const char *territory) {
-    rk_tables *t = &b->tables;
-    t->first_cells = RK_FIRST_CELLS(t->base_length), t->long_cells = RK_LONG_CELLS(RK_MOST_SEGMENTS);
-    t->owner_words = RK_MOST_SEGMENTS, t->rule_words = RK_MOST_RULES;
-    t->first = calloc(t->first_cells, sizeof *t->first), t->long_table = calloc(t->long_cells, sizeof *t->long_table);
-    t->owners = calloc(t->owner_words, sizeof *t->owners), t->rules = calloc(t->rule_words, sizeof *t->rules);
+static int lend(books *b) {
     b->octets = calloc(RK_WORDS, sizeof *b->octets), b->cents = calloc(RK_WORDS, sizeof *b->cents);
     b->hops = calloc(RK_HOPS, sizeof *b->hops), b->names = calloc(RK_WORDS, sizeof *b->names);
     b->lines = calloc(RK_WORDS, sizeof *b->lines);
-    if (!t->first || !t->long_table || !t->owners || !t->rules || !b->octets || !b->cents || !b->hops || !b->names || !b->lines)
-        return say("no memory");
-    if (rk_tables_clear(t) != RK_OK) return misused(territory, "has bits after its length");
+    if (!b->octets || !b->cents || !b->hops || !b->names || !b->lines) return say("no memory");
     if (rk_clear_octets(b->octets, RK_WORDS) != RK_OK) return say("the memory lent has another size");
     return WHOLE;
 }
 
 static void give_back(books *b) {
     for (int hop = 0; b->names && hop < RK_WORDS; hop++) free(b->names[hop]);
-    free(b->tables.first), free(b->tables.long_table), free(b->tables.owners), free(b->tables.rules);
+    tables_give_back(&b->tables);
     free(b->octets), free(b->cents), free(b->hops), free(b->names), free(b->lines), free(b);
-}
-
-static const char *reading_words(uint32_t code) {
-    static const char *const words[CODES] = {
-        [RK_CUT_RECORD] = "it ends too early",
-        [RK_WRONG_LENGTH_FIELD] = "its length field is not 13",
-        [RK_WRONG_VERSION] = "its version is not 1",
-        [RK_WRONG_KIND] = "its kind is not 1, 2 or 3",
-        [RK_WRONG_SERIAL] = "its serial is not the expected one",
-        [RK_WITHDRAW_WITH_HOP] = "it is a withdraw with a hop",
-    };
-    return code < CODES && words[code] ? words[code] : "rakmolthi.h says why";
-}
-
-static int take_records(books *b, FILE *file, const char *as) {
-    unsigned long counts[CODES] = {0}, place = 0;
-    char list[CODES * 40] = "", *end = list;
-    uint8_t record[RK_RECORD_BYTES];
-    size_t got;
-    for (; (got = fread(record, 1, sizeof record, file)) > 0 && !ferror(file); place++) {
-        rk_reading reading = rk_read_record(record, got, (uint32_t)place);
-        rk_report report;
-        if (reading.code != RK_OK)
-            return say("%s: record %lu, counted from 0, is refused with %u: %s", as, place, (unsigned)reading.code, reading_words(reading.code));
-        report = rk_tables_update(&b->tables, reading.update);
-        if (report.code >= CODES) return say("%s: record %lu, counted from 0: the answer %u is unknown", as, place, (unsigned)report.code);
-        counts[report.code]++;
-    }
-    if (ferror(file)) return say("%s: %s", as, strerror(errno));
-    for (int code = 1; code < CODES; code++)
-        if (counts[code] > 0) end += sprintf(end, "%s %lu with %d", end == list ? "" : ",", counts[code], code);
-    if (end != list) say("updates refused:%s", list);
-    return WHOLE;
-}
-
-static int read_updates(books *b, const char *name) {
-    const char *as;
-    FILE *file = open_input(name, &as);
-    int status = file ? take_records(b, file, as) : UNREAD;
-    if (file) close_input(file);
-    return status;
 }
 
 static int read_lines(books *b, const char *name, int (*take)(books *, char *)) {
@@ -163,7 +107,7 @@ static int book(books *b) {
 static int take_flow(books *b, char *line) {
     int number;
     if (!take_address(&line, &b->addresses[b->count]))
-        return say_line(&b->text, "there is no IPv4 address in front: four numbers of 0 to 255 with dots, and no 0 before another digit");
+        return say_line(&b->text, "there is no IPv4 address in front: " AN_ADDRESS);
     number = take_gap(&line) ? take_number(&line, &b->amounts[b->count]) : 0;
     if (number == 0) return say_line(&b->text, "there is no whole number of octets after the address");
     if (number < 0) return say_line(&b->text, "the octets are above 2^64 - 1");
@@ -286,33 +230,20 @@ static int print_sheet(books *b, int csv, int all) {
 enum { TERRITORY, UPDATES, FLOWS, CENTS, CSV, ALL, OPTIONS };
 
 int sheet(int argc, char **argv) {
-    static const char *const names[OPTIONS] = {"--territory", "--updates", "--flows", "--cents", "--csv", "--all"};
-    char *values[OPTIONS] = {0}, *territory;
-    uint32_t base, length;
+    static const char *const options[OPTIONS] = {"--territory", "--updates", "--flows", "--cents", "--csv", "--all"};
+    static const usage takes = {"sheet", help, options, CSV, OPTIONS};
+    char *values[OPTIONS] = {0};
     books *b;
-    int status;
-    for (int i = 0; i < argc; i++) {
-        int option = 0;
-        if (strcmp(argv[i], "--help") == 0) return fputs(help, stdout), written();
-        while (option < OPTIONS && strcmp(argv[i], names[option]) != 0) option++;
-        if (option == OPTIONS) return misused(argv[i], "is no option");
-        if (values[option]) return misused(argv[i], "stands twice");
-        if (option < CSV && (i + 1 == argc || strncmp(argv[i + 1], "--", 2) == 0)) return misused(argv[i], "has no value");
-        values[option] = option < CSV ? argv[++i] : argv[i];
-    }
-    for (int option = 0; option < CSV; option++)
-        if (!values[option]) return misused(names[option], "is missing");
+    int status = take_options(&takes, argc, argv, values, NULL);
+    if (status != GO_ON) return status;
     if ((strcmp(values[UPDATES], "-") == 0) + (strcmp(values[FLOWS], "-") == 0) + (strcmp(values[CENTS], "-") == 0) > 1)
-        return misused("-", "can stand for one file alone, since there is one standard input");
-    territory = values[TERRITORY];
-    if (!take_prefix(&territory, &base, &length) || *territory) return misused(values[TERRITORY], "is no prefix such as 10.16.0.0/12");
-    if (length > RK_MOST_TERRITORY) return misused(values[TERRITORY], "is longer than 24");
+        return misused("sheet", "-", "can stand for one file alone, since there is one standard input");
 
     b = calloc(1, sizeof *b);
     if (!b) return say("no memory");
-    b->tables.base = base, b->tables.base_length = length;
-    status = lend(b, values[TERRITORY]);
-    if (status == WHOLE) status = read_updates(b, values[UPDATES]);
+    status = tables_lend(&b->tables, "sheet", values[TERRITORY]);
+    if (status == WHOLE) status = lend(b);
+    if (status == WHOLE) status = tables_update(&b->tables, values[UPDATES]);
     if (status == WHOLE) status = read_flows(b, values[FLOWS]);
     if (status == WHOLE) status = read_lines(b, values[CENTS], take_cents);
     if (status == WHOLE) status = print_sheet(b, values[CSV] != NULL, values[ALL] != NULL);

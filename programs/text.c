@@ -51,8 +51,9 @@ void progress_end(void) {
 }
 
 int written(void) {
-    if (fflush(stdout) == 0 && !ferror(stdout)) return WHOLE;
-    return say("standard output: %s", strerror(errno));
+    int failed = fflush(stdout) != 0 || ferror(stdout);
+    clearerr(stdout);
+    return failed ? say("standard output: %s", strerror(errno)) : WHOLE;
 }
 
 FILE *open_input(const char *name, const char **as) {
@@ -89,15 +90,21 @@ static int digit(char c) {
     return c >= '0' && c <= '9';
 }
 
-/* What is not handed out moves to the front of the room and the rest of it is filled. */
+/*
+ * What is not handed out moves to the front of the room, and what there is to read follows it. Someone may wait for the answer to the last
+ * line before the next is sent, so standard output is written first, and as few bytes as come are enough.
+ */
 static int fill(text *t) {
-    size_t left = t->to - t->from, wanted = TEXT_BYTES - left, got;
+    size_t left = t->to - t->from;
+    ssize_t got;
+    if (written() != WHOLE) return -1;
     memmove(t->room, t->from, left);
-    got = fread(t->room + left, 1, wanted, t->file);
+    do got = read(fileno(t->file), t->room + left, TEXT_BYTES - left);
+    while (got < 0 && errno == EINTR);
+    if (got < 0) return say("%s: %s", t->name, strerror(errno)), -1;
     t->from = t->room;
     t->to = t->room + left + got;
-    t->ended = got < wanted;
-    if (ferror(t->file)) return say("%s: %s", t->name, strerror(errno)), -1;
+    t->ended = got == 0;
     return 0;
 }
 

@@ -40,7 +40,7 @@ int say_line(const text *t, const char *format, ...);
 void progress(const char *name, unsigned long lines);
 void progress_end(void);
 
-/* All that standard output holds is written: WHOLE, or UNREAD where that failed, which is said. */
+/* All that standard output holds is written: WHOLE, or UNREAD where a write failed since the last call, which is said. */
 int written(void);
 
 /* Opens a file, - for standard input, and closes it. What can't be opened is said; `as` is the name that messages have. */
@@ -54,8 +54,12 @@ void text_close(text *t);
 /*
  * The next line with something in it, without the blanks around it: 1, and it stays until the next call; 0 at the end of the file; -1
  * where the line can't be read or the file ends inside it, which is said. Blank lines and those that begin with # are passed over.
+ * Before it waits for more of the file, standard output is written; -1 also where that fails.
  */
 int text_next(text *t, char **line);
+
+/* What an address is, for messages and manuals. */
+#define AN_ADDRESS "four numbers of 0 to 255 with dots, and no 0 before another digit"
 
 /* Each takes what it names off the front of *at. 0: it is not there, and *at stays. */
 int take_number(char **at, uint64_t *number); /* -1: it is there, and has more than 64 bits */

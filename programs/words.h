@@ -3,5 +3,6 @@
 #define WORDS_H
 
 int sheet(int argc, char **argv);
+int look_up(int argc, char **argv);
 
 #endif
