@@ -34,9 +34,14 @@ int main(int argc, char **argv) {
         unsigned a, b, c, d;
         if (sscanf(argv[i], "%u.%u.%u.%u", &a, &b, &c, &d) != 4 || (a | b | c | d) > 255)
             return fprintf(stderr, "site: %s is no address\n", argv[i]), 1;
-        uint32_t number = rk_tables_look_up(&t, a << 24 | b << 16 | c << 8 | d);
-        if (RK_CODE(number) == RK_OK) printf("%s: hop %u\n", argv[i], RK_HOP(number));
-        else printf("%s: %s\n", argv[i], RK_CODE(number) == RK_NO_ROUTE ? "no route" : "refused");
+        uint32_t address = a << 24 | b << 16 | c << 8 | d, number = rk_tables_look_up(&t, address);
+        if (RK_CODE(number) == RK_OK) {
+            uint32_t won = RK_CUT(address, RK_LENGTH(number));
+            printf("%s: hop %u by %u.%u.%u.%u/%u\n", argv[i], RK_HOP(number), won >> 24, won >> 16 & 255, won >> 8 & 255, won & 255,
+                   RK_LENGTH(number));
+        } else {
+            printf("%s: %s\n", argv[i], RK_CODE(number) == RK_NO_ROUTE ? "no route" : "refused");
+        }
     }
     free(t.first), free(t.long_table), free(t.owners), free(t.rules);
     if (fflush(stdout) != 0) return perror("site: standard output"), 1;

@@ -12,7 +12,7 @@ use Rattle.prefix.specs.Geometry.{Territory, blocks, blockOf, blockSize}
 use Rattle.prefix.proofs.Prefixes.{contains?, in-range}
 use Rattle.prefix.proofs.Spans.{isTerritory?, block-inside}
 use Rattle.cells.specs.Memory.{lentToRead, mostSegments}
-use Rattle.lookup.specs.inner.Standing.{lentIn, standingOf}
+use Rattle.lookup.specs.inner.Standing.{lentBy, standingOf}
 
 -- ---- the refusal that comes before any cell is read
 
@@ -33,16 +33,16 @@ module _ {first long : ℕ} {t : Prefix} {a : ℕ} (s : Stands first long t a) w
 abbrev pub number : Bool → Bool → ℕ
 number lent inside = cond lent (cond inside 0 3) 1
 
--- what `lentIn` decides
-pub record LentIn (unit first long : ℕ) (t : Prefix) : Type 0 where
+-- what `lentBy` decides
+pub record LentBy (unit first long : ℕ) (t : Prefix) : Type 0 where
   pub territory : Territory t
   pub parts-a-block : first ≡ unit * blocks t
   pub whole-segments : long % (unit * blockSize) ≡ 0
   pub not-too-many : long ≤ unit * (blockSize * mostSegments)
 
-pub lentIn? : (unit first long : ℕ) (t : Prefix) → Decides (LentIn unit first long t) (lentIn unit first long t)
-unfolding lentIn
-lentIn? unit first long t =
+pub lentBy? : (unit first long : ℕ) (t : Prefix) → Decides (LentBy unit first long t) (lentBy unit first long t)
+unfolding lentBy
+lentBy? unit first long t =
     iff?
     (and? (and? (and? (isTerritory? t) (eqb? first (unit * blocks t))) (eqb? (long % (unit * blockSize)) 0)) (leb? long (unit * (blockSize * mostSegments))))
     (λ h. record { territory = h .0 .0 .0; parts-a-block = h .0 .0 .1; whole-segments = h .0 .1; not-too-many = h .1 })
@@ -54,7 +54,7 @@ unfolding standingOf
 in-cells first long t a =
     ap (λ (x : Bool). number x (contains t a))
     (same-test
-    (iff? (lentIn? 1 first long t)
+    (iff? (lentBy? 1 first long t)
     (λ l. record { territory = l .territory; a-cell-a-block = omega (arith, l .parts-a-block); whole-segments = omega (arith, l .whole-segments); not-too-many = omega (arith, l .not-too-many) })
     (λ l. record { territory = l .territory; parts-a-block = omega (arith, l .a-cell-a-block); whole-segments = omega (arith, l .whole-segments); not-too-many = omega (arith, l .not-too-many) }))
     (lentToRead? first long t))
@@ -74,7 +74,7 @@ may-stand {first} {long} {t} {a} s =
 
 pub small-standing : (unit first long : ℕ) (t : Prefix) (a : ℕ) → standingOf unit first long t a ≤ 3
 unfolding standingOf
-small-standing unit first long t a = go (lentIn unit first long t) (contains t a)
+small-standing unit first long t a = go (lentBy unit first long t) (contains t a)
   where
     go : (x y : Bool) → number x y ≤ 3
     go true true = lit≤ tt

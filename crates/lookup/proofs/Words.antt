@@ -12,7 +12,7 @@ use Rattle.prefix.specs.Prefixes.{contains}
 use Rattle.lookup.specs.Lookup.{refused, lookUp, packed}
 use Rattle.lookup.specs.inner.Standing.{standingOf}
 use Rattle.lookup.specs.Bytes.{spelt, words, lookUpBytes}
-use Rattle.lookup.proofs.Reading.{Stands, number, lentIn?, stands, stops-at}
+use Rattle.lookup.proofs.Reading.{Stands, number, lentBy?, stands, stops-at}
 
 pub length-words : (s : List ℕ) → length (words s) ≡ length s / 4
 unfolding words
@@ -59,8 +59,8 @@ module _ (first long : List ℕ) (t : Prefix) (a : ℕ) where
       let f = length-words first in
       let l = length-words long in
       ap (λ (x : Bool). number x (contains t a))
-      (same-test (lentIn? 4 (length first) (length long) t)
-      (iff? (lentIn? 1 (length (words first)) (length (words long)) t)
+      (same-test (lentBy? 4 (length first) (length long) t)
+      (iff? (lentBy? 1 (length (words first)) (length (words long)) t)
       (λ r. record {
         territory = r .territory;
         parts-a-block = omega (arith, w, r .parts-a-block);
@@ -79,7 +79,7 @@ module _ (first long : List ℕ) (t : Prefix) (a : ℕ) where
   unfolding standingOf
   not-in-words n =
       ap (λ (x : Bool). number x (contains t a))
-      (stops (lentIn? 4 (length first) (length long) t) (λ r. n (omega (arith, r .parts-a-block), omega (arith, r .whole-segments))))
+      (stops (lentBy? 4 (length first) (length long) t) (λ r. n (omega (arith, r .parts-a-block), omega (arith, r .whole-segments))))
 
   pub answers-words : Whole → packed (lookUp (words first) (words long) t a) ≡ lookUpBytes first long t a
   unfolding lookUpBytes

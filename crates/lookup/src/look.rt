@@ -76,14 +76,14 @@ pub fn standing(unit: usize, first: usize, long: usize, territory: Prefix, addre
     if prefix::cleared(base, length) != base {
         return 1;
     }
+    if unit * Most::LONG < long {
+        return 1;
+    }
     let blocks = blocks_of(length);
     if first != unit * blocks {
         return 1;
     }
     if long % (unit * Block::CELLS) != 0 {
-        return 1;
-    }
-    if unit * Most::LONG < long {
         return 1;
     }
     if blocks <= block_from(base, address) as usize {
