@@ -91,10 +91,10 @@ fn say(base: u32, blocks: u32, addresses: &[u32], answers: &mut [u32])
     ensures { λ _. ⌜ now (answers .exit) ≡ saidAll base blocks (now (addresses .entry)) (now (answers .entry)) ⌝ }
 {
     let count = answers.len();
-    let mut i = 0;
-    while i < count {
-        answers[i] = said(base, blocks, addresses[i], answers[i]);
-        i += 1;
+    let mut done = 0;
+    while done < count {
+        answers[done] = said(base, blocks, addresses[done], answers[done]);
+        done += 1;
     }
 }
 

@@ -1,5 +1,7 @@
--- `bulk::say` meets its contract. The loop's invariant: the answers before i are said. Assumes nothing.
-use Prim.Native.Nat.{_-_}
+-- `bulk::say` meets its contract. The loop's invariant: the answers before `done` are said. Assumes nothing.
+use mathlib.Core.Path.{_≡_, sym, subst}
+use mathlib.Core.List.{List}
+use Prim.Native.Nat.{ℕ, _-_}
 use native.Mathlib.Omega.{arith}
 use lib.ListN.{getD}
 use borrow.Author.Needs.{needs}
@@ -9,13 +11,17 @@ use Rattle.bulk.proofs.say.Statement.{statement}
 use Rattle.bulk.proofs.say.Tie as tie
 
 abbrev Inv-loop : tie.InvT-loop
-Inv-loop base blocks addresses answers₀ count i₀ answers i = Passed (λ j x. saidOf base blocks (getD addresses j 0) x) answers₀ i answers
+Inv-loop base blocks addresses answers₀ count done₀ answers done = Passed (λ j x. saidOf base blocks (getD addresses j 0) x) answers₀ done answers
 
 abbrev μ-loop : tie.MeasureT-loop
-μ-loop base blocks addresses answers₀ count i₀ answers i = count - i
+μ-loop base blocks addresses answers₀ count done₀ answers done = count - done
+
+-- before the first answer there is none
+starts : {f : ℕ → ℕ → ℕ} {xs : List ℕ} {k : ℕ} → k ≡ 0 → Passed f xs k xs
+starts {f} {xs} e = subst (λ (k : ℕ). Passed f xs k xs) (sym e) pass-none
 
 loop-holds : tie.Need-loop-holds Inv-loop μ-loop
-loop-holds c = pass-none
+loop-holds c = starts (omega arith)
 
 loop-again : tie.Need-loop-again Inv-loop μ-loop
 loop-again c = pass-more (c .before .before .before .before .loop .inv) (c .said .ensures)
