@@ -1,6 +1,6 @@
 -- `bulk::fetched` meets its contract: a cell that is no pointer stays, and `says` answers a pointer. Assumes nothing.
-use mathlib.Core.Path.{_≡_, sym, ap, _∙_}
-use Prim.Native.Nat.{ℕ, _+_, _%_}
+use mathlib.Core.Path.{_≡_, sym}
+use Prim.Native.Nat.{_+_, _%_}
 use native.Mathlib.Omega.{arith}
 use denote.Ref.{now}
 use Rattle.ground.proofs.Tests.{leb?, if-so, if-not, cond-on, cond-off}
@@ -38,8 +38,8 @@ unfolding fetchedOf
 returns-2 c =
     let s = c .before .before .before .before .args in
     let pointer = leb? pointerBit (s .cell) in
-    ap (λ (n : ℕ). pointerBit + n) (answer c)
-    ∙ sym (cond-on _ _ pointer (if-so pointer (c .before .before .is-pointer .ensures) (c .before .if1 .left)))
+    let said = packed (saysOf (now (s .long)) (s .address % blockSize) (s .cell)) in
+    omega (arith, answer c, cond-on (pointerBit + said) (s .cell) pointer (if-so pointer (c .before .before .is-pointer .ensures) (c .before .if1 .left)))
 
 pub fetched-spec : {M : Type 1} → statement M
 fetched-spec = tie.close (tie.spec (λ c κs. search needs) returns (λ c. search needs) (λ c κs. search needs) add-result returns-2)

@@ -1,6 +1,7 @@
 -- `bytes::look_up_bytes` meets its contract: as `look::look_up`, on the words that the bytes spell. Assumes nothing.
 use mathlib.Core.Path.{_≡_, ap, _∙_}
 use Prim.Native.Nat.{_%_}
+use native.Mathlib.Nat.{le-of-eq, le-trans}
 use native.Mathlib.Omega.{arith}
 use lib.ListN.{length, getD}
 use denote.Ref.{now}
@@ -15,8 +16,8 @@ use Rattle.lookup.proofs.bytes.look_up_bytes.Tie as tie
 
 refusal-requires : tie.Need-refusal-requires
 refusal-requires c κs =
-    let s = c .before .before .before .before .args in
-    omega (arith, c .before .standing .ensures, small-standing 4 (length (now (s .first))) (length (now (s .long))) (s .territory) (s .address))
+    let small = le-trans (le-of-eq (c .before .standing .ensures)) (small-standing _ _ _ _ _) in
+    omega (arith, small)
 
 returns : tie.Need-returns
 returns c =

@@ -1,10 +1,10 @@
 -- `look::direct_or_damage` meets its contract, by the test of a direct cell. Assumes nothing.
-use mathlib.Core.Path.{sym, ap, ap₂, _∙_}
-use Prim.Native.Nat.{ℕ}
+use mathlib.Core.Path.{sym, ap, _∙_}
 use native.Mathlib.Omega.{arith}
 use Rattle.ground.proofs.Tests.{says, denies, cond-on, cond-off}
+use Rattle.cells.specs.Cells.{hopOf, lengthOf}
 use Rattle.cells.proofs.Direct.{Direct, isDirect?}
-use Rattle.lookup.specs.Lookup.{found, packed}
+use Rattle.lookup.specs.Lookup.{refused, found, packed}
 use borrow.Author.Needs.{needs}
 use Rattle.lookup.proofs.look.direct_or_damage.Statement.{statement}
 use Rattle.lookup.proofs.look.direct_or_damage.Tie as tie
@@ -21,9 +21,8 @@ route-requires c κs = (omega (arith, c .before .length .ensures), omega (arith,
 returns : tie.Need-returns
 returns c =
     let s = c .before .before .before .before .before .args in
-    c .route .ensures
-    ∙ ap₂ (λ (length hop : ℕ). packed (found length hop)) (c .before .before .length .ensures) (c .before .hop .ensures)
-    ∙ sym (ap packed (cond-on _ _ (isDirect? (s .longest) (s .cell)) (direct (c .before .before .before))))
+    let e = cond-on (found (lengthOf (s .cell)) (hopOf (s .cell))) (refused 4) (isDirect? (s .longest) (s .cell)) (direct (c .before .before .before)) in
+    omega (arith, c .route .ensures, c .before .hop .ensures, c .before .before .length .ensures, ap packed e)
 
 returns-2 : tie.Need-returns-2
 returns-2 c =
