@@ -41,6 +41,10 @@ module _ (long : List ℕ) (low cell : ℕ) where
 pub by-low : (long : List ℕ) (low m cell n : ℕ) → n ≡ packed (saysOf long low cell) → low ≡ m → n ≡ packed (saysOf long m cell)
 by-low long low m cell n e h = e ∙ ap (λ (x : ℕ). packed (saysOf long x cell)) h
 
+-- a refusal's number with length 0 and hop 0 is that refusal
+pub as-refused : (r : Answer) (code : ℕ) → r .code ≡ code → r .length ≡ 0 → r .hop ≡ 0 → {s : Answer} → refused code ≡ s → r ≡ s
+as-refused r code c l h e = (λ i. record { code = c i; length = l i; hop = h i }) ∙ e
+
 -- ---- what an answer can be
 
 -- its parts are small; a refusal has length 0 and no hop, and what is no refusal has a hop

@@ -7,7 +7,7 @@ use denote.Ref.{now}
 use Rattle.prefix.specs.Geometry.{blockSize, blockOf}
 use Rattle.lookup.specs.Lookup.{refused, saysOf, lookUp, packed}
 use Rattle.lookup.proofs.Reading.{Stands, stands, past-base, block-lent, goes-on, stops-at}
-use Rattle.lookup.proofs.Answers.{by-low, told-says, unpacked}
+use Rattle.lookup.proofs.Answers.{as-refused, by-low, told-says, unpacked}
 use borrow.Author.Needs.{needs}
 use Rattle.lookup.proofs.look.look_up.Statement.{statement}
 use Rattle.lookup.proofs.look.look_up.Tie as tie
@@ -16,7 +16,7 @@ returns : tie.Need-returns
 unfolding lookUp
 returns c =
     let refused-at : ¬ (c .before .standing .result ≡ 0) = omega (arith, c .if1 .taken) in
-    stops-at refused _ _ _ _ _ _ (c .before .standing .ensures) refused-at
+    as-refused _ (c .before .standing .result) (omega arith) (omega arith) (omega arith) (stops-at refused _ _ _ _ _ _ (c .before .standing .ensures) refused-at)
 
 -- past the first test, the call may read
 may-read : (c : tie.Else1) → let s = c .before .before .before .before .args in
