@@ -62,7 +62,7 @@ told-cond : (t : Bool) {x y : Answer} → Told x → Told y → Told (cond t x y
 told-cond true p q = p
 told-cond false p q = q
 
-pub told-verdict : (longest cell : ℕ) → longest ≤ 32 → Told (verdictOf longest cell)
+told-verdict : (longest cell : ℕ) → longest ≤ 32 → Told (verdictOf longest cell)
 unfolding verdictOf
 told-verdict longest cell h = told-cond (eqb cell empty) (told-refused 8 (lit< tt) (lit≤ tt)) (go (isDirect? longest cell))
   where
@@ -101,5 +101,5 @@ pub unpacked : {r : Answer} {n : ℕ} → Told r → n ≡ packed r → unpacked
 unpacked {r} {n} T e =
     sym (parts r n (omega (arith, T .length, T .hop)) (omega (arith, T .length, T .hop)) (omega (arith, T .length, T .hop)))
 
-pub no-pointer : {r : Answer} → Told r → pointerBit ≤ packed r → ⊥
-no-pointer T p = omega (arith, T .code, T .length, T .hop)
+pub no-pointer : {r : Answer} → Told r → packed r < pointerBit
+no-pointer T = omega (arith, T .code, T .length, T .hop)

@@ -13,8 +13,10 @@ use prefix::Prefix;
 use prefix::geometry::Block;
 use prefix::geometry::block_of;
 
-// So many bytes are in a segment.
-const SEGMENT: usize = 4 * Block::CELLS;
+// So many bytes are in a cell, and in a segment.
+const CELL: usize = 4;
+
+const SEGMENT: usize = CELL * Block::CELLS;
 
 // A word from its bytes, the lowest first. 256, 65536 and 16777216 are the weights of bytes.
 fn spell(a: u8, b: u8, c: u8, d: u8) -> u32
@@ -28,7 +30,7 @@ fn word(bytes: &[u8], at: usize) -> u32
     requires { ⌜ at < length (now bytes) / 4 ⌝ }
     ensures { λ r. ⌜ r ≡ getD (words (now (bytes .entry))) at 0 ⌝ }
 {
-    let k = at * 4;
+    let k = at * CELL;
     spell(bytes[k], bytes[k + 1], bytes[k + 2], bytes[k + 3])
 }
 
@@ -52,7 +54,7 @@ fn says_bytes(long: &[u8], low: usize, cell: u32) -> u32
 pub fn look_up_bytes(first: &[u8], long: &[u8], territory: Prefix, address: u32) -> u32
     ensures { λ r. ⌜ r ≡ lookUpBytes (now (first .entry)) (now (long .entry)) territory address ⌝ }
 {
-    let code = standing(4, first.len(), long.len(), territory, address);
+    let code = standing(CELL, first.len(), long.len(), territory, address);
     if code != 0 {
         return Answer::refusal(code);
     }

@@ -7,7 +7,7 @@ use Rattle.ground.proofs.Tests.{leb?, if-so, if-not, cond-on, cond-off}
 use Rattle.prefix.specs.Geometry.{blockSize}
 use Rattle.cells.specs.Cells.{pointerBit}
 use Rattle.lookup.specs.Lookup.{packed, saysOf}
-use Rattle.lookup.proofs.Answers.{by-low, told-says}
+use Rattle.lookup.proofs.Answers.{by-low, told-says, no-pointer}
 use Rattle.bulk.specs.inner.Passes.{fetchedOf}
 use borrow.Author.Needs.{needs}
 use Rattle.bulk.proofs.fetched.Statement.{statement}
@@ -30,8 +30,7 @@ answer c =
 add-result : tie.Need-add-result
 add-result c =
     let s = c .before .before .before .before .args in
-    let told = told-says (now (s .long)) (s .address % blockSize) (s .cell) in
-    omega (arith, answer c, told .code, told .length, told .hop)
+    omega (arith, answer c, no-pointer (told-says (now (s .long)) (s .address % blockSize) (s .cell)))
 
 returns-2 : tie.Need-returns-2
 unfolding fetchedOf
