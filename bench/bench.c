@@ -204,7 +204,7 @@ static void compare_with_peer(void) {
 
 /* ---- look up ---- */
 
-enum { ADDRESSES = 1 << 22, CALL = 1024, SEGMENTS = 8192 };
+enum { ADDRESSES = 1 << 22, TURN = 1 << 18, CALL = 1024, SEGMENTS = 8192 };
 enum { PLAIN_ONE, RK_ONE, BEFORE_ONE, PLAIN_ALL, RK_ALL, BEFORE_ALL, PEER_ONE, PEER_ALL, WAYS };
 static uint32_t *first, *lng;
 #ifdef DPDK
@@ -250,6 +250,24 @@ static void load(const uint32_t *first_from, const uint32_t *long_from) {
     memcpy(first, first_from, 4ul * BLOCKS), memcpy(lng, long_from, 1024ul * SEGMENTS);
 }
 
+/* A round of the ways that read the tables as they are loaded. They have the addresses in short turns, each way once a turn, so that what else
+ * the machine does meets all alike. Before a turn the first way has its addresses uncounted: else it alone would wait for memory where the
+ * others find a cache filled. */
+static void time_round(way *const *ways, int from, int to, const uint32_t *addresses, double (*t)[ROUNDS], int r) {
+    uint32_t answers[CALL];
+    for (int k = from; k < to; k++) t[k][r] = 0;
+    for (int at = 0; at < ADDRESSES; at += TURN) {
+        for (int i = at; i < at + TURN; i += CALL) ways[from](addresses + i, answers);
+        for (int j = from; j < to; j++) {
+            int k = at / TURN % 2 ? to - 1 - (j - from) : j;
+            if (!ways[k]) continue;
+            double start = now();
+            for (int i = at; i < at + TURN; i += CALL) ways[k](addresses + i, answers);
+            t[k][r] += (now() - start) / ADDRESSES;
+        }
+    }
+}
+
 static void time_ways(struct memory m, int rules, int huge, const uint32_t *addresses) {
     static way *const ways[WAYS] = {
         [PLAIN_ONE] = plain_one, [RK_ONE] = rk_one, [PLAIN_ALL] = plain_all, [RK_ALL] = rk_all,
@@ -282,18 +300,14 @@ static void time_ways(struct memory m, int rules, int huge, const uint32_t *addr
         rk_all(addresses + i, answers);
         if (memcmp(wanted, answers, sizeof wanted)) fail("rk_look_up_all differs from plain C");
     }
-    for (int r = 0; r < ROUNDS; r++)
-        for (int k = 0; k < WAYS; k++) {
-            if (!ways[k]) continue;
+    for (int r = 0; r < ROUNDS; r++) {
+        load(m.first, m.lng);
+        time_round(ways, PLAIN_ONE, PEER_ONE, addresses, t, r);
 #ifdef DPDK
-            if (k == PLAIN_ONE) load(m.first, m.lng);
-            if (k == PEER_ONE) load((uint32_t *)peer->tbl24, (uint32_t *)peer->tbl8);
+        load((uint32_t *)peer->tbl24, (uint32_t *)peer->tbl8);
+        time_round(ways, PEER_ONE, WAYS, addresses, t, r);
 #endif
-            for (int i = 0; i < ADDRESSES; i += CALL) ways[k](addresses + i, answers);
-            double start = now();
-            for (int i = 0; i < ADDRESSES; i += CALL) ways[k](addresses + i, answers);
-            t[k][r] = (now() - start) / ADDRESSES;
-        }
+    }
     const char *one = huge ? "rk_look_up, 2 MB pages" : "rk_look_up, 4 KB pages";
     const char *all = huge ? "rk_look_up_all, 2 MB pages" : "rk_look_up_all, 4 KB pages";
     row(one, rules, "plain C, same tests", t[RK_ONE], t[PLAIN_ONE], 1.25);

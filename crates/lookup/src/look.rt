@@ -44,7 +44,7 @@ impl Answer {
     }
 
     // The prefix that won.
-    pub fn route(length: u32, hop: u32) -> u32
+    fn route(length: u32, hop: u32) -> u32
         requires { ⌜ (length < 2 ^ 6) × (hop < 2 ^ 16) ⌝ }
         ensures { λ r. ⌜ r ≡ packed (found length hop) ⌝ }
     {
