@@ -75,7 +75,8 @@ fn places(base: u32, blocks: u32, addresses: &[u32], answers: &mut [u32])
 fn fetch(first: &[u32], long: &[u32], addresses: &[u32], answers: &mut [u32])
     requires { ⌜ length (now answers) ≡ length (now addresses) ⌝ }
     requires { ⌜ ((i : ℕ) → i < length (now answers) → getD (now answers) i 0 < length (now first)) ⌝ }
-    ensures { λ _. ⌜ now (answers .exit) ≡ fetchedAll (now (first .entry)) (now (long .entry)) (now (addresses .entry)) (now (answers .entry)) ⌝ }
+    ensures { λ _. ⌜ now (answers .exit)
+        ≡ fetchedAll (now (first .entry)) (now (long .entry)) (now (addresses .entry)) (now (answers .entry)) ⌝ }
 {
     let count = answers.len();
     let mut i = 0;

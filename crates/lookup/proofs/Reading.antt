@@ -55,8 +55,18 @@ in-cells first long t a =
     ap (λ (x : Bool). number x (contains t a))
     (same-test
     (iff? (lentBy? 1 first long t)
-    (λ l. record { territory = l .territory; a-cell-a-block = omega (arith, l .parts-a-block); whole-segments = omega (arith, l .whole-segments); not-too-many = omega (arith, l .not-too-many) })
-    (λ l. record { territory = l .territory; parts-a-block = omega (arith, l .a-cell-a-block); whole-segments = omega (arith, l .whole-segments); not-too-many = omega (arith, l .not-too-many) }))
+    (λ l. record {
+      territory = l .territory;
+      a-cell-a-block = omega (arith, l .parts-a-block);
+      whole-segments = omega (arith, l .whole-segments);
+      not-too-many = omega (arith, l .not-too-many);
+    })
+    (λ l. record {
+      territory = l .territory;
+      parts-a-block = omega (arith, l .a-cell-a-block);
+      whole-segments = omega (arith, l .whole-segments);
+      not-too-many = omega (arith, l .not-too-many);
+    }))
     (lentToRead? first long t))
 
 pub stands : {first long : ℕ} {t : Prefix} {a code : ℕ} → code ≡ standingOf 1 first long t a → code ≡ 0 → Stands first long t a

@@ -71,7 +71,8 @@ returns-6 c =
     let l = lent tested in
     sym (cond-on _ _ (lentBy? (s .unit) (s .first) (s .long) (s .territory)) l
     ∙ cond-off _ _ (contains? (s .territory) (s .address))
-    (λ k. omega (arith, tested .before .before .blocks-of .ensures, c .before .block-from .ensures, below-blocks (l .territory) (omega (arith, start .good)) (omega arith) k)))
+    (λ k. let below = below-blocks (l .territory) (omega (arith, start .good)) (omega arith) k in
+    omega (arith, tested .before .before .blocks-of .ensures, c .before .block-from .ensures)))
 
 returns-7 : tie.Need-returns-7
 unfolding standingOf
