@@ -15,14 +15,14 @@ use Rattle.prefix.proofs.Spans.{some-block}
 use Rattle.prefix.proofs.Inside.{block-from, inside?}
 use Rattle.cells.specs.Cells.{pointerBit}
 use Rattle.cells.specs.Memory.{lentToRead}
-use Rattle.lookup.specs.Lookup.{refused, verdictOf, saysOf, lookUp, packed}
+use Rattle.lookup.specs.Lookup.{refused, saysOf, lookUp, packed}
 use Rattle.lookup.specs.inner.Standing.{standingOf}
-use Rattle.prefix.specs.Geometry.{width, blockSize, blockOf, blockFrom}
+use Rattle.prefix.specs.Geometry.{blockSize, blockOf, blockFrom}
 use Rattle.cells.proofs.Lending.{LentToRead, lentToRead?}
 use Rattle.lookup.proofs.Reading.{may-stand, goes-on}
 use Rattle.lookup.proofs.Answers.{decides}
 use Rattle.bulk.specs.All.{Outcome, answerOf, allOf}
-use Rattle.bulk.specs.inner.Passes.{placeOf, fetchedOf, verdictOrMarked, saidOf, placedAll, fetchedAll, saidAll}
+use Rattle.bulk.specs.inner.Passes.{placeOf, fetchedOf, verdictOrMarked, judgedOf, placedAll, fetchedAll, judgedAll}
 
 -- ---- what was tested
 
@@ -62,7 +62,7 @@ module _ (first long : List ℕ) (t : Prefix) (addresses answers : List ℕ) whe
 
 -- ---- one address: what the passes make of it
 
--- a first cell, fetched and then told
+-- a first cell, fetched and then judged
 by-both : (long : List ℕ) (a cell : ℕ) → verdictOrMarked (fetchedOf long a cell) ≡ packed (saysOf long (a % blockSize) cell)
 unfolding verdictOrMarked fetchedOf
 by-both long a cell =
@@ -78,12 +78,12 @@ module _ (first long : List ℕ) (t : Prefix) (a : ℕ) (l : LentToRead (length 
   in? : Decides (Contains t a) (ltb (blockFrom (t .address) a) (length first))
   in? = inside? (l .territory) fits small (length first) (l .a-cell-a-block)
 
-  passes-answer : saidOf (t .address) (length first) a (fetchedOf long a (getD first (placeOf (t .address) (length first) a) 0)) ≡ answerOf first long t a
-  unfolding lookUp saidOf placeOf
+  passes-answer : judgedOf (t .address) (length first) a (fetchedOf long a (getD first (placeOf (t .address) (length first) a) 0)) ≡ answerOf first long t a
+  unfolding lookUp judgedOf placeOf
   passes-answer =
       by-test (contains? t a)
       (λ c. let cell : ℕ = getD first (blockOf t a) 0 in
-      ap (λ (k : ℕ). saidOf (t .address) (length first) a (fetchedOf long a (getD first k 0))) (cond-on _ _ in? c ∙ block-from (l .territory) fits small c)
+      ap (λ (k : ℕ). judgedOf (t .address) (length first) a (fetchedOf long a (getD first k 0))) (cond-on _ _ in? c ∙ block-from (l .territory) fits small c)
       ∙ cond-on _ _ in? c
       ∙ by-both long a cell
       ∙ ap packed (goes-on refused (length first) (length long) t a (saysOf long (a % blockSize) cell) (record { lent = l; inside = c })))
@@ -109,7 +109,7 @@ module _ (first long : List ℕ) (t : Prefix) (addresses answers : List ℕ) (l 
   -- the three passes, each on what the last one left
   pub passes-all : t .address < 2 ^ 32 → ((i : ℕ) → i < length addresses → getD addresses i 0 < 2 ^ 32) → length addresses ≡ length answers → {v w x : List ℕ}
       → v ≡ placedAll (t .address) (length first) addresses answers → w ≡ fetchedAll first long addresses v
-      → x ≡ saidAll (t .address) (length first) addresses w
+      → x ≡ judgedAll (t .address) (length first) addresses w
       → x ≡ map (answerOf first long t) addresses
   passes-all fits small n {v} {w} {x} p q r =
       pass-then _ _ answers w x (pass-then _ _ answers v w p q) r

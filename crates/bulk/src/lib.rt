@@ -5,7 +5,7 @@ ghost use mathlib.Core.Path.{_≡_};
 ghost use Prim.Native.Nat.{ℕ, _<_};
 ghost use lib.ListN.{length, getD};
 ghost use Rattle.bulk.specs.All.{allOf};
-ghost use Rattle.bulk.specs.inner.Passes.{placeOf, fetchedOf, verdictOrMarked, saidOf, placedAll, fetchedAll, saidAll};
+ghost use Rattle.bulk.specs.inner.Passes.{placeOf, fetchedOf, verdictOrMarked, judgedOf, placedAll, fetchedAll, judgedAll};
 use cells::cell::Cell;
 use lookup::look::Answer;
 use lookup::look::says;
@@ -46,8 +46,8 @@ fn verdict_or_marked(word: u32) -> u32
 }
 
 // That in the territory, and refusal 3 outside it.
-fn said(base: u32, blocks: u32, address: u32, word: u32) -> u32
-    ensures { λ r. ⌜ r ≡ saidOf base blocks address word ⌝ }
+fn judged(base: u32, blocks: u32, address: u32, word: u32) -> u32
+    ensures { λ r. ⌜ r ≡ judgedOf base blocks address word ⌝ }
 {
     let number = verdict_or_marked(word);
     if block_from(base, address) < blocks {
@@ -87,14 +87,14 @@ fn fetch(first: &[u32], long: &[u32], addresses: &[u32], answers: &mut [u32])
 }
 
 // The third pass: what it says. It has no jump, so that a machine can do several cells at once.
-fn say(base: u32, blocks: u32, addresses: &[u32], answers: &mut [u32])
+fn judge(base: u32, blocks: u32, addresses: &[u32], answers: &mut [u32])
     requires { ⌜ length (now answers) ≡ length (now addresses) ⌝ }
-    ensures { λ _. ⌜ now (answers .exit) ≡ saidAll base blocks (now (addresses .entry)) (now (answers .entry)) ⌝ }
+    ensures { λ _. ⌜ now (answers .exit) ≡ judgedAll base blocks (now (addresses .entry)) (now (answers .entry)) ⌝ }
 {
     let count = answers.len();
     let mut done = 0;
     while done < count {
-        answers[done] = said(base, blocks, addresses[done], answers[done]);
+        answers[done] = judged(base, blocks, addresses[done], answers[done]);
         done += 1;
     }
 }
@@ -122,6 +122,6 @@ pub fn look_up_all(
     let blocks = first.len() as u32;
     places(base, blocks, addresses, answers);
     fetch(first, long, addresses, answers);
-    say(base, blocks, addresses, answers);
+    judge(base, blocks, addresses, answers);
     0
 }

@@ -44,16 +44,16 @@ getD-words [] i h = absurd (omega arith)
 
 -- ---- the look up on them
 
-module _ (first long : List ℕ) (t : Prefix) (a : ℕ) where
-  -- both tables are whole numbers of cells
-  abbrev Whole : Type 0
-  Whole = (length first % 4 ≡ 0) × (length long % 4 ≡ 0)
+-- both tables are whole numbers of cells
+abbrev pub Whole : List ℕ → List ℕ → Type 0
+Whole first long = (length first % 4 ≡ 0) × (length long % 4 ≡ 0)
 
-  whole? : Decides Whole (eqb (length first % 4) 0 && eqb (length long % 4) 0)
+module _ (first long : List ℕ) (t : Prefix) (a : ℕ) where
+  whole? : Decides (Whole first long) (eqb (length first % 4) 0 && eqb (length long % 4) 0)
   whole? = and? (eqb? (length first % 4) 0) (eqb? (length long % 4) 0)
 
-  -- then the tests on bytes are those on the words that they spell
-  in-words : Whole → standingOf 4 (length first) (length long) t a ≡ standingOf 1 (length (words first)) (length (words long)) t a
+  -- where they are, the tests on bytes are those on the words that they spell
+  in-words : Whole first long → standingOf 4 (length first) (length long) t a ≡ standingOf 1 (length (words first)) (length (words long)) t a
   unfolding standingOf
   in-words w =
       let f = length-words first in
@@ -75,19 +75,19 @@ module _ (first long : List ℕ) (t : Prefix) (a : ℕ) where
       })))
 
   -- and else they fail
-  not-in-words : (Whole → ⊥) → standingOf 4 (length first) (length long) t a ≡ 1
+  not-in-words : (Whole first long → ⊥) → standingOf 4 (length first) (length long) t a ≡ 1
   unfolding standingOf
   not-in-words n =
       ap (λ (x : Bool). number x (contains t a))
       (stops (lentBy? 4 (length first) (length long) t) (λ r. n (omega (arith, r .parts-a-block), omega (arith, r .whole-segments))))
 
-  pub answers-words : Whole → packed (lookUp (words first) (words long) t a) ≡ lookUpBytes first long t a
+  pub answers-words : Whole first long → packed (lookUp (words first) (words long) t a) ≡ lookUpBytes first long t a
   unfolding lookUpBytes
   answers-words w = sym (ap packed (cond-on _ _ whole? w))
 
   module _ (code : ℕ) (e : code ≡ standingOf 4 (length first) (length long) t a) where
     -- a call may read the words
-    pub words-stand : code ≡ 0 → Whole × Stands (length (words first)) (length (words long)) t a
+    pub words-stand : code ≡ 0 → Whole first long × Stands (length (words first)) (length (words long)) t a
     words-stand z = by-test whole? (λ w. (w, stands (e ∙ in-words w) z)) (λ n. absurd (omega (arith, not-in-words n)))
 
     -- or it is refused

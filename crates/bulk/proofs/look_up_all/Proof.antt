@@ -47,8 +47,8 @@ fetch-requires c κs =
 
 returns-3 : tie.Need-returns-3
 returns-3 c =
-    let saying = c .before .before in
-    let fetching = saying .before .before .before .before in
+    let judging = c .before .before in
+    let fetching = judging .before .before .before .before in
     let placing = fetching .before .before .before .before in
     let passed = placing .before .before in
     let known = passed .before .before .before .before in
@@ -59,7 +59,7 @@ returns-3 c =
     answered (now (s .first)) (now (s .long)) (s .territory) (now (s .addresses)) (now (s .answers)) (l, e)
     (passes-all (now (s .first)) (now (s .long)) (s .territory) (now (s .addresses)) (now (s .answers)) l
     (omega (arith, start .good)) (λ i h. omega (arith, known .shared-slice-known3 .given i)) e
-    (placing .places .ensures) (fetching .fetch .ensures) (saying .say .ensures))
+    (placing .places .ensures) (fetching .fetch .ensures) (judging .judge .ensures))
 
 pub look-up-all-spec : {M : Type 1} → statement M
 look-up-all-spec =

@@ -23,8 +23,8 @@ unfoldable pub verdictOrMarked : ℕ → ℕ
 verdictOrMarked word = cond (isPointer word) (word - pointerBit) (packed (verdictOf width word))
 
 -- that in the territory, and refusal 3 outside it
-unfoldable pub saidOf : ℕ → ℕ → ℕ → ℕ → ℕ
-saidOf base blocks address word = cond (ltb (blockFrom base address) blocks) (verdictOrMarked word) (packed (refused 3))
+unfoldable pub judgedOf : ℕ → ℕ → ℕ → ℕ → ℕ
+judgedOf base blocks address word = cond (ltb (blockFrom base address) blocks) (verdictOrMarked word) (packed (refused 3))
 
 -- ---- the passes, each over all answers
 
@@ -34,5 +34,5 @@ placedAll base blocks addresses answers = mapAt (λ i x. placeOf base blocks (ge
 abbrev pub fetchedAll : List ℕ → List ℕ → List ℕ → List ℕ → List ℕ
 fetchedAll first long addresses answers = mapAt (λ i x. fetchedOf long (getD addresses i 0) (getD first x 0)) answers
 
-abbrev pub saidAll : ℕ → ℕ → List ℕ → List ℕ → List ℕ
-saidAll base blocks addresses answers = mapAt (λ i x. saidOf base blocks (getD addresses i 0) x) answers
+abbrev pub judgedAll : ℕ → ℕ → List ℕ → List ℕ → List ℕ
+judgedAll base blocks addresses answers = mapAt (λ i x. judgedOf base blocks (getD addresses i 0) x) answers

@@ -1,5 +1,5 @@
 -- `bytes::look_up_bytes` meets its contract: as `look::look_up`, on the words that the bytes spell. Assumes nothing.
-use mathlib.Core.Path.{_≡_, ap, _∙_}
+use mathlib.Core.Path.{ap, _∙_}
 use Prim.Native.Nat.{_%_}
 use native.Mathlib.Nat.{le-of-eq, le-trans}
 use native.Mathlib.Omega.{arith}
@@ -9,7 +9,7 @@ use Rattle.prefix.specs.Geometry.{blockSize}
 use Rattle.lookup.specs.Lookup.{refused, saysOf, lookUp, packed}
 use Rattle.lookup.specs.Bytes.{words}
 use Rattle.lookup.proofs.Reading.{Stands, small-standing, past-base, block-lent, goes-on}
-use Rattle.lookup.proofs.Words.{length-words, answers-words, words-stand, bytes-stop}
+use Rattle.lookup.proofs.Words.{length-words, Whole, answers-words, words-stand, bytes-stop}
 use borrow.Author.Needs.{needs}
 use Rattle.lookup.proofs.bytes.look_up_bytes.Statement.{statement}
 use Rattle.lookup.proofs.bytes.look_up_bytes.Tie as tie
@@ -27,8 +27,7 @@ returns c =
 
 -- past the test, both tables are whole numbers of cells, and the call may read the words
 may-read : (c : tie.Else1) → let s = c .before .before .before .before .args in
-    ((length (now (s .first)) % 4 ≡ 0) × (length (now (s .long)) % 4 ≡ 0))
-    × Stands (length (words (now (s .first)))) (length (words (now (s .long)))) (s .territory) (s .address)
+    Whole (now (s .first)) (now (s .long)) × Stands (length (words (now (s .first)))) (length (words (now (s .long)))) (s .territory) (s .address)
 may-read c =
     let s = c .before .before .before .before .args in
     words-stand (now (s .first)) (now (s .long)) (s .territory) (s .address) _ (c .before .standing .ensures) (c .if1 .left)
