@@ -129,25 +129,30 @@ module _ (t : Prefix) (rs : List Route) (m : Lent) (I : Inv t rs m) (a : ℕ) (c
 -- ---- what a right answer says
 
 module _ {rs : List Route} {a : ℕ} (all : AllRoutes rs) where
-  -- there is one: number, length and hop are fixed
-  pub one-answer : Ascending rs → {x y : Answer} → IsAnswer rs a x → IsAnswer rs a y → x ≡ y
-  one-answer o (routed r l e) (routed s k f) = e ∙ ap (λ (q : Route). answer-found (q .prefix .length) (q .hop)) (longest-unique rs all o l k) ∙ sym f
-  one-answer o (routed r l e) (unrouted n f) = absurd (n r (l .member) (l .contains))
-  one-answer o (unrouted n e) (routed s k f) = absurd (n s (k .member) (k .contains))
-  one-answer o (unrouted n e) (unrouted m f) = e ∙ sym f
+  -- there is one
+  same : Ascending rs → {x y : Answer} → IsAnswer rs a x → IsAnswer rs a y → x ≡ y
+  same o (routed r l e) (routed s k f) = e ∙ ap (λ (q : Route). answer-found (q .prefix .length) (q .hop)) (longest-unique rs all o l k) ∙ sym f
+  same o (routed r l e) (unrouted n f) = absurd (n r (l .member) (l .contains))
+  same o (unrouted n e) (routed s k f) = absurd (n s (k .member) (k .contains))
+  same o (unrouted n e) (unrouted m f) = e ∙ sym f
 
   -- the prefix that won is the address cut to the length: it is live with the hop, and no live prefix that contains the address is longer
   won : {answer : Answer} → IsAnswer rs a answer → answer .code ≡ 0 → IsLongest rs a (wonBy a answer)
   won (routed r l e) z =
       let cut = cut-to (all r (l .member) .formed) (l .contains) in
-      let same : r ≡ wonBy a (answer-found (r .prefix .length) (r .hop)) = λ i. record { prefix = cut i; hop = r .hop } in
-      subst (IsLongest rs a) (same ∙ ap (wonBy a) (sym e)) l
+      let winner : r ≡ wonBy a (answer-found (r .prefix .length) (r .hop)) = λ i. record { prefix = cut i; hop = r .hop } in
+      subst (IsLongest rs a) (winner ∙ ap (wonBy a) (sym e)) l
   won (unrouted n e) z = absurd (omega (arith, ap (λ (x : Answer). x .code) e))
 
 -- Demand 2.
 pub demand-2 : (t : Prefix) (m : Lent) → IsLent t m → (h : History) (a : ℕ) → Contains t a
     → IsAnswer (live t m h) a (lookUp (memory t m h .tables .first) (memory t m h .tables .long) t a)
 demand-2 t m l h a c = is-answer t (live t m h) (memory t m h) (inv-history t m l h) a c
+
+-- It fixes number, length and hop: no other answer is right.
+pub one-answer : (t : Prefix) (m : Lent) → IsLent t m → (h : History) {a : ℕ} {x y : Answer}
+    → IsAnswer (live t m h) a x → IsAnswer (live t m h) a y → x ≡ y
+one-answer t m l h = let I = inv-history t m l h in same (I .list .all) (I .list .order)
 
 -- And in support's words: where look up answers no refusal, the prefix that won is the address cut to the length that it answers, and it is
 -- live with the hop that it answers. None that is live and contains the address is longer.
