@@ -1,6 +1,8 @@
 // Look up of many addresses in one call. What is lent is tested once, and each pass over the answers does one small thing, so that
 // many reads of the first table are under way at once and only a pointer is jumped to. Between the passes the room for the answers holds
 // what the next one needs.
+#![tactic(auto)]
+
 ghost use Rattle.std.specs.Prelude.{◌≡◌, ℕ, ◌<◌, length, get_or};
 ghost use Rattle.bulk.specs.All.{all_of};
 ghost use Rattle.bulk.specs.inner.Passes.{place_of, fetched_of, verdict_or_marked, judged_of, placed_all, fetched_all, judged_all};

@@ -1,4 +1,6 @@
 // The lent memory: the cell kind, the sizes of what is lent, and segments.
+#![tactic(auto)]
+
 pub mod cell;
 pub mod segments;
 pub mod sizes;

@@ -8,7 +8,7 @@ use records::Update;
 
 // What comes after the bytes that were read: other records; the rest of the last one, or nothing yet; the end of the input; nothing, since
 // a read failed.
-#[derive(Drop)]
+#[derive(Clone, Copy)]
 pub enum After {
     Records,
     Rest,
@@ -17,7 +17,7 @@ pub enum After {
 }
 
 // How many bytes the buffer holds, and what comes after them.
-#[derive(Drop)]
+#[derive(Clone, Copy)]
 pub struct Filled {
     pub count: usize,
     pub after: After,

@@ -1,5 +1,7 @@
 // The small program: a site's collector. It takes update records from standard input into the tables of one territory, and prints a line
 // for each. `collector.c` is its main.
+#![tactic(auto)]
+
 mod failures;
 mod input;
 mod output;

@@ -8,7 +8,7 @@ use libc::STDOUT_FILENO;
 
 // The numbers of the last line: the reading refusal that stopped the stream, 0 at a clean end; live prefixes; open segments. Where a read or
 // a write failed there is no such line.
-#[derive(Drop)]
+#[derive(Clone, Copy)]
 pub struct Last {
     pub failed: bool,
     pub code: u32,
@@ -17,7 +17,7 @@ pub struct Last {
 }
 
 // How much of a text is written, and whether a write failed.
-#[derive(Drop)]
+#[derive(Clone, Copy)]
 struct Wrote {
     done: usize,
     failed: bool,

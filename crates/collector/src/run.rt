@@ -21,7 +21,7 @@ fn territory() -> Prefix
 }
 
 // What comes next: a record of this serial is expected; the stream ended with this number; a read or a write failed, and that was said.
-#[derive(Drop)]
+#[derive(Clone, Copy)]
 enum Next {
     Expects(u32),
     Ends(u32),

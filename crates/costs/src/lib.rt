@@ -1,3 +1,5 @@
 // What the upstreams cost: the line of a hop, and which of two hops ranks before the other.
+#![tactic(auto)]
+
 pub mod line;
 pub mod order;

@@ -6,7 +6,7 @@ ghost use Rattle.costs.specs.Lines.{rate_of, words_line, line_of, values_of};
 use octets::words::Words;
 use prefix::LAST_HOP;
 
-#[derive(Drop)]
+#[derive(Clone, Copy)]
 pub enum Line {
     // Cents for an octet.
     Rate(f64),
@@ -16,7 +16,7 @@ pub enum Line {
 
 // A line in numbers, as C gets it: traffic is 1 where the rate holds; 0 with code 0 is "no traffic".
 #[repr(C)]
-#[derive(Drop)]
+#[derive(Clone, Copy)]
 pub struct Values {
     pub code: u32,
     pub traffic: u32,

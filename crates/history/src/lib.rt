@@ -1,1 +1,2 @@
 // Theorems only.
+#![tactic(auto)]

@@ -11,7 +11,7 @@ use prefix::geometry::{Block, block_from, block_of, blocks_of};
 
 // A refusal's number, and 0 twice; or 0, the length of the prefix that won, and its hop.
 #[repr(C)]
-#[derive(Drop)]
+#[derive(Clone, Copy)]
 pub struct Answer {
     pub code: u32,
     pub length: u32,

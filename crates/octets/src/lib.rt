@@ -1,4 +1,6 @@
 // The words of octets, one for each hop: cleared, and booked into by the hop that look up names.
+#![tactic(auto)]
+
 ghost use Rattle.std.specs.Prelude.{◌≡◌, ◌≤◌, length};
 ghost use Rattle.prefix.specs.Routes.{last_hop};
 ghost use Rattle.octets.specs.Words.{word_count};

@@ -20,7 +20,7 @@ impl Block {
 }
 
 // Blocks of a territory: `count` of them, from the number `from` on.
-#[derive(Drop)]
+#[derive(Clone, Copy)]
 pub struct Blocks {
     pub from: usize,
     pub count: usize,

@@ -1,5 +1,7 @@
 // The C library: each call under its C name, as thin as can be, with the contract of the call that it passes on. include/rakmolthi.h is
 // its manual.
+#![tactic(auto)]
+
 ghost use Rattle.std.specs.Prelude.{◌≡◌};
 ghost use Rattle.bulk.specs.All.{all_of};
 ghost use Rattle.lookup.specs.Bytes.{look_up_bytes};
@@ -10,7 +12,7 @@ ghost use Rattle.octets.specs.Many.{book_all};
 ghost use Rattle.records.specs.Record.{read_as, Writes};
 ghost use Rattle.cells.specs.Memory.{lent_in, lent_out};
 ghost use Rattle.prefix.specs.Prefixes.{prefix_by};
-ghost use Rattle.refusals.specs.Codes.{announces, withdraws, re-homes};
+ghost use Rattle.refusals.specs.Codes.{announces, withdraws, re_homes};
 ghost use Rattle.rules.specs.Words.{route_by};
 ghost use Rattle.updates.specs.Calls.{reported, step, clear};
 
@@ -134,7 +136,7 @@ pub extern "C" fn rk_re_home(
     hop: u32,
 ) -> Report
     ensures { reported result (lent_out first long_table owners rules)
-        ≡ step (prefix_by base base_length) (re-homes (route_by (prefix_by address length) hop)) (lent_in first long_table owners rules) }
+        ≡ step (prefix_by base base_length) (re_homes (route_by (prefix_by address length) hop)) (lent_in first long_table owners rules) }
 {
     let territory = Prefix {
         address: base,

@@ -1,5 +1,7 @@
 // Update records: read one, write one, and the serial that a stream expects next. A record is 15 bytes, big-endian: length (2),
 // version, kind, serial (4), address (4), prefix length, hop (2). What only tables can judge is not judged here.
+#![tactic(auto)]
+
 mod big_endian;
 
 ghost use Rattle.std.specs.Prelude.{◌≡◌, ◌≤◌, ◌++◌, length, drop};
@@ -9,7 +11,7 @@ use big_endian::{put_u16, put_u32, u16_at, u32_at};
 
 // An update's fields have the widths of the record.
 #[repr(C)]
-#[derive(Drop)]
+#[derive(Clone, Copy)]
 pub struct Update {
     pub kind: u8,
     pub serial: u32,
@@ -20,7 +22,7 @@ pub struct Update {
 
 // What reading gives: 0 and the update, or the number of a refusal and an all-zero update.
 #[repr(C)]
-#[derive(Drop)]
+#[derive(Clone, Copy)]
 pub struct Reading {
     pub code: u32,
     pub update: Update,

@@ -4,7 +4,7 @@ ghost use Rattle.prefix.specs.Prefixes.{WellFormed, Encloses};
 ghost use Rattle.prefix.specs.Routes.{is_route};
 ghost use Rattle.rules.specs.Words.{route_by};
 ghost use Rattle.cells.specs.Memory.{IsLent, lent, lent_in};
-ghost use Rattle.refusals.specs.Codes.{announces, withdraws, re-homes, clear_code};
+ghost use Rattle.refusals.specs.Codes.{announces, withdraws, re_homes, clear_code};
 ghost use Rattle.refusals.specs.inner.Checks.{CheckedIs, Learnt, unless_damaged, never, TestsTell, LiveTestsTell};
 
 use cells::segments::{free_segment, needs_segment};
@@ -17,7 +17,7 @@ use rules::list::{Place, find};
 
 // A refusal's number, or 0; with 0, how many rules are live, where the prefix stands among them, the blocks that it touches, whether a
 // segment is opened for it, and which.
-#[derive(Drop)]
+#[derive(Clone, Copy)]
 pub struct Checked {
     pub code: u32,
     pub used: usize,
@@ -232,7 +232,7 @@ pub fn re_home_checked(
     prefix: Prefix,
     hop: u32,
 ) -> Checked
-    ensures { CheckedIs territory (re-homes (route_by prefix hop)) (lent_in first long owners rules) result }
+    ensures { CheckedIs territory (re_homes (route_by prefix hop)) (lent_in first long owners rules) result }
 {
     live_tests(
         first,

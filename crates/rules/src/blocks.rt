@@ -12,7 +12,7 @@ use prefix::Prefix;
 use prefix::geometry::Block;
 
 // A place in the list of live rules, and whether a rule longer than a block was passed on the way to it.
-#[derive(Drop)]
+#[derive(Clone, Copy)]
 pub struct Cursor {
     pub at: usize,
     pub opened: bool,

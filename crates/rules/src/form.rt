@@ -9,7 +9,7 @@ use crate::word::Rule;
 use prefix::Prefix;
 
 // Whether the words have their form, and how many are live if they have.
-#[derive(Drop)]
+#[derive(Clone, Copy)]
 pub struct Form {
     pub formed: bool,
     pub used: usize,

@@ -1,7 +1,7 @@
 // The live words as an ordered list: a prefix found, put in and taken out.
 ghost use Rattle.std.specs.Prelude.{◌≡◌, true, false, ◌≤◌, ◌<◌, length};
 ghost use Rattle.prefix.specs.Prefixes.{WellFormed};
-ghost use Rattle.prefix.specs.Routes.{IsRoute, with-route, without};
+ghost use Rattle.prefix.specs.Routes.{IsRoute, with_route, without};
 ghost use Rattle.rules.specs.Words.{route_by};
 ghost use Rattle.rules.specs.Rules.{routes, words_of};
 ghost use Rattle.rules.specs.inner.Places.{Listed, Bracket, PositionIs, PlaceIs, inserted_at, removed_at};
@@ -10,7 +10,7 @@ use crate::word::Rule;
 use prefix::Prefix;
 
 // Where a prefix stands among the live words, or would stand, and whether it is live.
-#[derive(Drop)]
+#[derive(Clone, Copy)]
 pub struct Place {
     pub at: usize,
     pub found: bool,
@@ -115,7 +115,7 @@ pub fn put(rules: &mut [u64], used: usize, place: Place, prefix: Prefix, hop: u3
     requires place_is { PlaceIs rules.old used prefix place.at place.found }
     requires route { IsRoute (route_by prefix hop) }
     requires used_in_bounds { place.found ≡ false → used < length rules.old }
-    ensures { rules.new ≡ words_of (length rules.old) (with-route (route_by prefix hop) (routes rules.old)) }
+    ensures { rules.new ≡ words_of (length rules.old) (with_route (route_by prefix hop) (routes rules.old)) }
 {
     let at = place.at;
     let word = Rule::pack(prefix, hop);

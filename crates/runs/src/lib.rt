@@ -1,6 +1,8 @@
 // The longest match of an address in the rule words, with the run of addresses that share it: by a search for the address itself, and a
 // step up for each rule on the way that ends before the address, each looking backwards from the last, so that no pass over the words is
 // needed.
+#![tactic(auto)]
+
 ghost use Rattle.std.specs.Prelude.{◌≡◌, ◌+◌, ◌<◌, ◌≤◌};
 ghost use Rattle.prefix.specs.Routes.{IsRoute};
 ghost use Rattle.rules.specs.Words.{route_of, key_of};
@@ -20,7 +22,7 @@ const ADDRESSES: u64 = 0x1_0000_0000;
 
 // The cell of the longest match of an address, and an end past the address up to which every address has the same. For what is past the
 // end: where the prefix of the match ends, and how many of the live words are up to the address.
-#[derive(Drop)]
+#[derive(Clone, Copy)]
 pub struct Run {
     pub cell: u32,
     pub end: u64,

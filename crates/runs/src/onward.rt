@@ -8,7 +8,7 @@ use crate::Run;
 use rules::word::Rule;
 
 // How many of the live words start at an address or before, if those that were looked at do not contain it.
-#[derive(Drop)]
+#[derive(Clone, Copy)]
 struct Ended {
     at: usize,
     clear: bool,

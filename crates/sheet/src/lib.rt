@@ -1,4 +1,6 @@
 // The cost sheet: the hops from 1 to 32,767, dearest first.
+#![tactic(auto)]
+
 ghost use Rattle.std.specs.Prelude.{◌≡◌, drop};
 ghost use Rattle.sheet.specs.Sheet.{within, SheetIs};
 

@@ -1,5 +1,7 @@
 // A stream of update records, from bytes in a slice: each record is read under its serial, its update is taken into the tables, and the
 // line to be printed for it is left as three words. No input and no output happens here, so all of it is exact.
+#![tactic(auto)]
+
 ghost use Rattle.std.specs.Prelude.{◌≡◌, ◌+◌, ◌*◌, ◌≤◌, ◌∷◌, ◌++◌, length, take, drop};
 ghost use Rattle.cells.specs.Memory.{lent_in, lent_out};
 ghost use Rattle.updates.specs.Calls.{reported, step};
@@ -13,21 +15,21 @@ use records::Update;
 use updates::Report;
 
 // Where a stream stands: it expects a record of this serial next, or it ended with the number of a record that reading refused.
-#[derive(Drop)]
+#[derive(Clone, Copy)]
 pub enum Step {
     Expects(u32),
     Refused(u32),
 }
 
 // What some bytes of a stream came to, and how many records of theirs were taken.
-#[derive(Drop)]
+#[derive(Clone, Copy)]
 pub struct Taken {
     pub step: Step,
     pub count: usize,
 }
 
 // What one record came to: the number that reading gave; with 0 its serial, and what the tables answered.
-#[derive(Drop)]
+#[derive(Clone, Copy)]
 struct Turn {
     code: u32,
     serial: u32,

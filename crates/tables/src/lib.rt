@@ -3,6 +3,8 @@
 //
 // What a caller's tests have found is handed in: the block, or the blocks, and the segment. The owner words, the territory and the prefix
 // are handed down also where only a contract speaks of them: the language has no parameter that is there for a contract alone.
+#![tactic(auto)]
+
 pub mod fill;
 pub mod paint;
 pub mod place;

@@ -9,7 +9,7 @@ use prefix::geometry::Block;
 use prefix::{Prefix, span_of};
 
 // The cells from..to.
-#[derive(Drop)]
+#[derive(Clone, Copy)]
 pub struct Range {
     pub from: usize,
     pub to: usize,

@@ -1,6 +1,8 @@
 // Withdrawal's repaint: each cell of a prefix with exactly its length takes the longest match of the rules that are left. That match is kept
 // with the run of addresses that share it, so that the rules are asked again only past the run's end. Cells that stay are passed over
 // first; those from there up to the run's end then take its cell in a loop that asks nothing.
+#![tactic(auto)]
+
 ghost use Rattle.std.specs.Prelude.{◌≡◌, true, ◌+◌, ◌-◌, ◌^◌, ◌≤◌, ◌<◌};
 ghost use Rattle.prefix.specs.Geometry.{block_start, touched};
 ghost use Rattle.cells.specs.Memory.{tables, tables_in, tables_out};
@@ -21,14 +23,14 @@ use runs::Run;
 use tables::{paint, place};
 
 // How many cells differ, and the run that then holds.
-#[derive(Drop)]
+#[derive(Clone, Copy)]
 pub struct Tally {
     pub changed: u32,
     pub run: Run,
 }
 
 // The same of a part of the blocks, that ends at `to`.
-#[derive(Drop)]
+#[derive(Clone, Copy)]
 pub struct Part {
     pub changed: u32,
     pub run: Run,

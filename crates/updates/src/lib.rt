@@ -1,9 +1,11 @@
 // The calls that write: clear, announce, withdraw and re-home, for any numbers and any lent memory. Each tests first, in the paper's order,
 // and writes only when nothing refuses.
+#![tactic(auto)]
+
 ghost use Rattle.std.specs.Prelude.{◌≡◌};
 ghost use Rattle.cells.specs.Memory.{lent_in, lent_out};
 ghost use Rattle.rules.specs.Words.{route_by};
-ghost use Rattle.refusals.specs.Codes.{announces, withdraws, re-homes};
+ghost use Rattle.refusals.specs.Codes.{announces, withdraws, re_homes};
 ghost use Rattle.updates.specs.Calls.{reported, step, clear};
 
 mod put;
@@ -15,7 +17,7 @@ use refusals::codes;
 
 // What an update reports: 0 and the number of cells that it changed, or a refusal's number and 0.
 #[repr(C)]
-#[derive(Drop)]
+#[derive(Clone, Copy)]
 pub struct Report {
     pub code: u32,
     pub cells: u32,
@@ -71,7 +73,7 @@ pub fn re_home(
     hop: u32,
 ) -> Report
     ensures { reported result (lent_out first long owners rules)
-        ≡ step territory (re-homes (route_by prefix hop)) (lent_in first long owners rules) }
+        ≡ step territory (re_homes (route_by prefix hop)) (lent_in first long owners rules) }
 {
     let checked = codes::re_home_checked(first, long, owners, rules, territory, prefix, hop);
     put::put_checked(first, long, owners, rules, territory, prefix, hop, checked)

@@ -1,5 +1,7 @@
 // Look up as a view: it carries both lent tables and the territory, and answers address after address. The method takes the view apart
 // and calls the look up on slices; who has slices and wants no view calls `look_in`.
+#![tactic(auto)]
+
 ghost use Rattle.std.specs.Prelude.{◌≡◌};
 ghost use Rattle.lookup.specs.Lookup.{look_up};
 

@@ -6,18 +6,14 @@ use Rattle.ground.proofs.Tests.{ltb?, passes, stops}
 use Rattle.prefix.specs.Geometry.{width}
 use Rattle.cells.specs.Cells.{is_pointer}
 use borrow.Author.Rules.{rules}
-use Rattle.cells.proofs.segments.needs_segment.Statement.{statement}
-use Rattle.cells.proofs.segments.needs_segment.Tie as tie
+use Rattle.cells.proofs.segments.needs_segment.Goals as goal
 
-returns : tie.Need-returns
-returns c =
-    let s = c.before.args in
+pub returns-then-length-le-WIDTH : goal.returns-then-length-le-WIDTH
+returns-then-length-le-WIDTH c =
+    let s = c.args in
     sym (ap (λ (b : Bool). b && not (is_pointer s.cell)) (stops (ltb? width s.length) (λ h. omega arith)))
 
-returns-2 : tie.Need-returns-2
-returns-2 c =
-    let s = c.before.before.args in
+pub returns : goal.returns
+returns c =
+    let s = c.args in
     ap not c.is_pointer.ensures ∙ sym (ap (λ (b : Bool). b && not (is_pointer s.cell)) (passes (ltb? width s.length) (omega arith)))
-
-pub needs-segment-spec : {M : Type 1} → statement M
-needs-segment-spec = tie.close (tie.spec returns (λ c κs. search rules) returns-2)
