@@ -1,7 +1,5 @@
--- The memory that a caller lends: its parts, the sizes that are asked of them, and how a contract names it. Assumes nothing.
+-- The memory that a caller lends: its parts, and the sizes that are asked of them. Assumes nothing.
 use Rattle.std.specs.Prelude.{◌≡◌, ℕ, suc, ◌*◌, ◌%◌, ◌≤◌, Bool, true, cond, not, ◌&&◌, List, [], ◌∷◌, leb, ltb, eqb, length, get_or}
-use Rattle.std.specs.Borrow.{Bor}
-use denote.Triple.Both.{Both}
 use Rattle.prefix.specs.declared.Prefix.{Prefix}
 use Rattle.prefix.specs.Geometry.{width, block_size, is_territory, Territory, blocks, block_of}
 use Rattle.cells.specs.Cells.{is_pointer}
@@ -75,27 +73,3 @@ lowest_free (o ∷ os) = cond (eqb o 0) 0 (suc (lowest_free os))
 -- the prefix is longer than 24 and its block has no segment
 unfoldable pub needs_segment : Prefix → Prefix → Tables → Bool
 needs_segment t p tables = ltb width p.length && not (is_pointer (get_or tables.first (block_of t p.address) 0))
-
--- ---- as a contract names it, by the parameters that lend it: in a `requires`, and in an `ensures` at entry and at exit
-
-abbrev pub tables : (first long owners : Bor (List ℕ)) → Tables
-tables first long owners = tables_of first.now long.now owners.now
-
-abbrev pub lent : (first long owners rules : Bor (List ℕ)) → Lent
-lent first long owners rules = lent_of first.now long.now owners.now rules.now
-
--- a parameter at its two moments
-abbrev pub Slice : Type 0
-Slice = Both (Bor (List ℕ)) (Bor (List ℕ))
-
-abbrev pub tables_in : (first long owners : Slice) → Tables
-tables_in first long owners = tables first.entry long.entry owners.entry
-
-abbrev pub tables_out : (first long owners : Slice) → Tables
-tables_out first long owners = tables first.exit long.exit owners.exit
-
-abbrev pub lent_in : (first long owners rules : Slice) → Lent
-lent_in first long owners rules = lent first.entry long.entry owners.entry rules.entry
-
-abbrev pub lent_out : (first long owners rules : Slice) → Lent
-lent_out first long owners rules = lent first.exit long.exit owners.exit rules.exit

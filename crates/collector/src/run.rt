@@ -1,6 +1,6 @@
 // The loop of the program: bytes are read into a buffer, the records in it are taken, and their lines are printed.
 ghost use Rattle.std.specs.Prelude.{◌≡◌};
-ghost use Rattle.cells.specs.Memory.{IsLent, lent, lent_in, lent_out};
+ghost use Rattle.cells.specs.Memory.{IsLent, lent_of};
 ghost use Rattle.collector.specs.Running.{site, count_of, next_of, last_of, Handed, LastIs};
 
 use crate::input::{After, Filled};
@@ -65,7 +65,7 @@ fn take_next(
     rules: &mut [u64],
     expected: u32,
 ) -> Next
-    ensures { Handed expected (lent_in first long owners rules) result (lent_out first long owners rules) }
+    ensures { Handed expected (lent_of first.old long.old owners.old rules.old) result (lent_of first.new long.new owners.new rules.new) }
 {
     let mut buffer = [0u8; 960];
     let mut lines = [0u32; 192];
@@ -91,7 +91,7 @@ fn take_next(
 
 // Takes records until the stream ends or something fails; the loop's turns are counted as in `input::fill`.
 fn take_stream(first: &mut [u32], long: &mut [u32], owners: &mut [u32], rules: &mut [u64]) -> Next
-    ensures { Handed 0 (lent_in first long owners rules) result (lent_out first long owners rules) }
+    ensures { Handed 0 (lent_of first.old long.old owners.old rules.old) result (lent_of first.new long.new owners.new rules.new) }
 {
     let mut expected = 0;
     let mut turns = u64::MAX;
@@ -135,8 +135,8 @@ fn last_of(next: Next, prefixes: u64, segments: u64) -> Last
 
 // From cleared memory, the whole stream, and the numbers of the last line.
 pub fn run(first: &mut [u32], long: &mut [u32], owners: &mut [u32], rules: &mut [u64]) -> Last
-    requires { IsLent site (lent first long owners rules) }
-    ensures { LastIs (lent_in first long owners rules) result (lent_out first long owners rules) }
+    requires { IsLent site (lent_of first.old long.old owners.old rules.old) }
+    ensures { LastIs (lent_of first.old long.old owners.old rules.old) result (lent_of first.new long.new owners.new rules.new) }
 {
     updates::clear(first, long, owners, rules, territory());
     let next = take_stream(first, long, owners, rules);

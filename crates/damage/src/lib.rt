@@ -5,9 +5,9 @@ ghost use Rattle.std.specs.Prelude.{◌≡◌, ◌+◌, ◌*◌, ◌^◌, ◌<�
 ghost use Rattle.prefix.specs.Geometry.{width, block_size};
 ghost use Rattle.rules.specs.Rules.{routes};
 ghost use Rattle.rules.specs.inner.Places.{Listed};
-ghost use Rattle.cells.specs.Memory.{tables, tables_in, Sized};
+ghost use Rattle.cells.specs.Memory.{Sized, tables_of};
 ghost use Rattle.damage.specs.Damage.{is_clean, segment_sound, sound_by};
-ghost use Rattle.damage.specs.inner.Walk.{clean_run, long_in, sound_run, BlocksLent, MayWalk};
+ghost use Rattle.damage.specs.inner.Walk.{clean_run, sound_run, BlocksLent, MayWalk};
 
 use cells::cell::Cell;
 use prefix::Prefix;
@@ -42,7 +42,7 @@ fn clean_run(cells: &[u32], longest: u32, from: usize, count: usize) -> bool
 // Whether the segment is lent, the block owns it, and each of its cells is 0 or direct.
 fn segment_sound(long: &[u32], owners: &[u32], block: usize, segment: usize) -> bool
     requires { (length long.now ≡ block_size * length owners.now) × (block < 2 ^ width) }
-    ensures { result ≡ segment_sound (long_in long owners) block segment }
+    ensures { result ≡ segment_sound (tables_of [] long.now owners.now) block segment }
 {
     if owners.len() <= segment {
         return false;
@@ -56,7 +56,7 @@ fn segment_sound(long: &[u32], owners: &[u32], block: usize, segment: usize) -> 
 // Whether the block is sound, where `opened` says that a live prefix longer than 24 lies in it.
 fn block_sound(first: &[u32], long: &[u32], owners: &[u32], block: usize, opened: bool) -> bool
     requires { (length long.now ≡ block_size * length owners.now) × (block < 2 ^ width) × (block < length first.now) }
-    ensures { result ≡ sound_by (tables_in first long owners) block opened }
+    ensures { result ≡ sound_by (tables_of first.now long.now owners.now) block opened }
 {
     let cell = first[block];
     if !Cell::is_pointer(cell) {
@@ -83,8 +83,8 @@ fn walk(
     blocks: Blocks,
     at: usize,
 ) -> bool
-    requires { MayWalk territory blocks (tables first long owners) rules.now used at }
-    ensures { result ≡ sound_run territory blocks (routes rules.now) (tables_in first long owners) }
+    requires { MayWalk territory blocks (tables_of first.now long.now owners.now) rules.now used at }
+    ensures { result ≡ sound_run territory blocks (routes rules.now) (tables_of first.now long.now owners.now) }
 {
     let end = blocks.from + blocks.count;
     let mut block = blocks.from;
@@ -120,9 +120,9 @@ pub fn blocks_sound(
     territory: Prefix,
     blocks: Blocks,
 ) -> bool
-    requires sized { Sized territory (tables first long owners) × BlocksLent blocks (tables first long owners) }
+    requires sized { Sized territory (tables_of first.now long.now owners.now) × BlocksLent blocks (tables_of first.now long.now owners.now) }
     requires listed { Listed rules.now used }
-    ensures { result ≡ sound_run territory blocks (routes rules.now) (tables_in first long owners) }
+    ensures { result ≡ sound_run territory blocks (routes rules.now) (tables_of first.now long.now owners.now) }
 {
     let start = block_start(territory, blocks.from);
     let at = cursor_at(rules, used, start);

@@ -7,11 +7,11 @@ use Rattle.octets.specs.contracts.clear_octets as clear-octets
 use Rattle.octets.specs.contracts.book as book
 use Rattle.octets.specs.contracts.book_all as book-all
 
-clear_octets_settled : Settled clear-octets.ended (λ M 𝓤. clear-octets.clauses 𝓤)
+clear_octets_settled : Settled clear-octets.ended (λ M 𝓤 𝓛. clear-octets.clauses 𝓛)
 clear_octets_settled = record { claim = _; says = λ M 𝓤 𝓛 mem run κs a. refl; one = λ κs a x y v w p q. let e = p ∙ sym q in (ap (λ (o : Outcome). o.code) e, λ i. ((e i).words, tt)) }
 
-book_settled : Settled book.ended (λ M 𝓤. book.clauses 𝓤)
+book_settled : Settled book.ended (λ M 𝓤 𝓛. book.clauses 𝓛)
 book_settled = record { claim = _; says = λ M 𝓤 𝓛 mem run κs a. refl; one = λ κs a x y v w p q. let e = p ∙ sym q in (ap (λ (o : Outcome). o.code) e, λ i. (v.0, (v.1.0, ((e i).words, (v.1.1.1.0, (v.1.1.1.1.0, (v.1.1.1.1.1.0, tt))))))) }
 
-book_all_settled : Settled book-all.ended (λ M 𝓤. book-all.clauses 𝓤)
+book_all_settled : Settled book-all.ended (λ M 𝓤 𝓛. book-all.clauses 𝓛)
 book_all_settled = record { claim = _; says = λ M 𝓤 𝓛 mem run κs a. refl; one = λ κs a x y v w p q. let e = p ∙ sym q in (ap (λ (o : Outcomes). o.code) e, λ i. (v.0, (v.1.0, ((e i).words, (v.1.1.1.0, (v.1.1.1.1.0, (v.1.1.1.1.1.0, ((e i).codes, tt)))))))) }

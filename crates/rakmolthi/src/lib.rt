@@ -10,7 +10,7 @@ ghost use Rattle.sheet.specs.Sheet.{SheetIs};
 ghost use Rattle.octets.specs.Booking.{clear_octets, book};
 ghost use Rattle.octets.specs.Many.{book_all};
 ghost use Rattle.records.specs.Record.{read_as, Writes};
-ghost use Rattle.cells.specs.Memory.{lent_in, lent_out};
+ghost use Rattle.cells.specs.Memory.{lent_of};
 ghost use Rattle.prefix.specs.Prefixes.{prefix_by};
 ghost use Rattle.refusals.specs.Codes.{announces, withdraws, re_homes};
 ghost use Rattle.rules.specs.Words.{route_by};
@@ -67,8 +67,8 @@ pub extern "C" fn rk_clear(
     base: u32,
     base_length: u32,
 ) -> u32
-    ensures { reported (record { code = result; cells = 0 }) (lent_out first long_table owners rules)
-        ≡ clear (prefix_by base base_length) (lent_in first long_table owners rules) }
+    ensures { reported (record { code = result; cells = 0 }) (lent_of first.new long_table.new owners.new rules.new)
+        ≡ clear (prefix_by base base_length) (lent_of first.old long_table.old owners.old rules.old) }
 {
     let territory = Prefix {
         address: base,
@@ -89,9 +89,9 @@ pub extern "C" fn rk_announce(
     length: u32,
     hop: u32,
 ) -> Report
-    ensures { reported result (lent_out first long_table owners rules)
+    ensures { reported result (lent_of first.new long_table.new owners.new rules.new)
         ≡ step (prefix_by base base_length) (announces (route_by (prefix_by address length) hop))
-        (lent_in first long_table owners rules) }
+        (lent_of first.old long_table.old owners.old rules.old) }
 {
     let territory = Prefix {
         address: base,
@@ -112,8 +112,8 @@ pub extern "C" fn rk_withdraw(
     address: u32,
     length: u32,
 ) -> Report
-    ensures { reported result (lent_out first long_table owners rules)
-        ≡ step (prefix_by base base_length) (withdraws (prefix_by address length)) (lent_in first long_table owners rules) }
+    ensures { reported result (lent_of first.new long_table.new owners.new rules.new)
+        ≡ step (prefix_by base base_length) (withdraws (prefix_by address length)) (lent_of first.old long_table.old owners.old rules.old) }
 {
     let territory = Prefix {
         address: base,
@@ -135,8 +135,8 @@ pub extern "C" fn rk_re_home(
     length: u32,
     hop: u32,
 ) -> Report
-    ensures { reported result (lent_out first long_table owners rules)
-        ≡ step (prefix_by base base_length) (re_homes (route_by (prefix_by address length) hop)) (lent_in first long_table owners rules) }
+    ensures { reported result (lent_of first.new long_table.new owners.new rules.new)
+        ≡ step (prefix_by base base_length) (re_homes (route_by (prefix_by address length) hop)) (lent_of first.old long_table.old owners.old rules.old) }
 {
     let territory = Prefix {
         address: base,

@@ -3,7 +3,7 @@ ghost use Rattle.std.specs.Prelude.{◌≡◌, true, not, ◌&&◌, eqb};
 ghost use Rattle.prefix.specs.Prefixes.{WellFormed, Encloses};
 ghost use Rattle.prefix.specs.Routes.{is_route};
 ghost use Rattle.rules.specs.Words.{route_by};
-ghost use Rattle.cells.specs.Memory.{IsLent, lent, lent_in};
+ghost use Rattle.cells.specs.Memory.{IsLent, lent_of};
 ghost use Rattle.refusals.specs.Codes.{announces, withdraws, re_homes, clear_code};
 ghost use Rattle.refusals.specs.inner.Checks.{CheckedIs, Learnt, unless_damaged, never, TestsTell, LiveTestsTell};
 
@@ -65,9 +65,9 @@ fn damage_tests(
     territory: Prefix,
     prefix: Prefix,
 ) -> Checked
-    requires lent { IsLent territory (lent first long owners rules) }
+    requires lent { IsLent territory (lent_of first.now long.now owners.now rules.now) }
     requires well_formed { WellFormed prefix × Encloses territory prefix }
-    ensures { Learnt territory prefix (unless_damaged territory prefix) never (lent_in first long owners rules) result }
+    ensures { Learnt territory prefix (unless_damaged territory prefix) never (lent_of first.now long.now owners.now rules.now) result }
 {
     let form = form_of(rules, territory);
     let used = form.used;
@@ -100,7 +100,7 @@ fn tests(
     lets: bool,
 ) -> Checked
     requires { lets ≡ true → WellFormed prefix }
-    ensures { TestsTell territory prefix lets (lent_in first long owners rules) result }
+    ensures { TestsTell territory prefix lets (lent_of first.now long.now owners.now rules.now) result }
 {
     if !lent(
         first.len(),
@@ -131,7 +131,7 @@ fn live_tests(
     lets: bool,
 ) -> Checked
     requires { lets ≡ true → WellFormed prefix }
-    ensures { LiveTestsTell territory prefix lets (lent_in first long owners rules) result }
+    ensures { LiveTestsTell territory prefix lets (lent_of first.now long.now owners.now rules.now) result }
 {
     let checked = tests(first, long, owners, rules, territory, prefix, lets);
     if checked.code != 0 {
@@ -163,7 +163,7 @@ pub fn announce_checked(
     prefix: Prefix,
     hop: u32,
 ) -> Checked
-    ensures { CheckedIs territory (announces (route_by prefix hop)) (lent_in first long owners rules) result }
+    ensures { CheckedIs territory (announces (route_by prefix hop)) (lent_of first.now long.now owners.now rules.now) result }
 {
     let checked = tests(
         first,
@@ -209,7 +209,7 @@ pub fn withdraw_checked(
     territory: Prefix,
     prefix: Prefix,
 ) -> Checked
-    ensures { CheckedIs territory (withdraws prefix) (lent_in first long owners rules) result }
+    ensures { CheckedIs territory (withdraws prefix) (lent_of first.now long.now owners.now rules.now) result }
 {
     live_tests(
         first,
@@ -232,7 +232,7 @@ pub fn re_home_checked(
     prefix: Prefix,
     hop: u32,
 ) -> Checked
-    ensures { CheckedIs territory (re_homes (route_by prefix hop)) (lent_in first long owners rules) result }
+    ensures { CheckedIs territory (re_homes (route_by prefix hop)) (lent_of first.now long.now owners.now rules.now) result }
 {
     live_tests(
         first,
@@ -253,7 +253,7 @@ pub fn clear_checked(
     rules: &[u64],
     territory: Prefix,
 ) -> u32
-    ensures { result ≡ clear_code territory (lent_in first long owners rules) }
+    ensures { result ≡ clear_code territory (lent_of first.now long.now owners.now rules.now) }
 {
     if lent(
         first.len(),

@@ -3,7 +3,7 @@
 #![tactic(auto)]
 
 ghost use Rattle.std.specs.Prelude.{◌≡◌, ◌+◌, ◌*◌, ◌≤◌, ◌∷◌, ◌++◌, length, take, drop};
-ghost use Rattle.cells.specs.Memory.{lent_in, lent_out};
+ghost use Rattle.cells.specs.Memory.{lent_of};
 ghost use Rattle.updates.specs.Calls.{reported, step};
 ghost use Rattle.stream.specs.Stream.{call_of, records_in};
 ghost use Rattle.stream.specs.Taking.{TurnIs, TakenIs};
@@ -45,8 +45,8 @@ fn take_update(
     territory: Prefix,
     update: Update,
 ) -> Report
-    ensures { reported result (lent_out first long owners rules)
-        ≡ step territory (call_of update) (lent_in first long owners rules) }
+    ensures { reported result (lent_of first.new long.new owners.new rules.new)
+        ≡ step territory (call_of update) (lent_of first.old long.old owners.old rules.old) }
 {
     let prefix = Prefix {
         address: update.address,
@@ -72,7 +72,7 @@ fn take_record(
     bytes: &[u8],
     expected: u32,
 ) -> Turn
-    ensures { TurnIs territory bytes.now expected (lent_in first long owners rules) result (lent_out first long owners rules) }
+    ensures { TurnIs territory bytes.now expected (lent_of first.old long.old owners.old rules.old) result (lent_of first.new long.new owners.new rules.new) }
 {
     let reading = records::read(bytes, expected);
     let update = reading.update;
@@ -117,8 +117,8 @@ pub fn take_records(
     lines: &mut [u32],
 ) -> Taken
     requires { 3 * records_in bytes.now ≤ length lines.old }
-    ensures { TakenIs territory bytes.now expected (lent_in first long owners rules) lines.old result
-        (lent_out first long owners rules) lines.new }
+    ensures { TakenIs territory bytes.now expected (lent_of first.old long.old owners.old rules.old) lines.old result
+        (lent_of first.new long.new owners.new rules.new) lines.new }
 {
     let mut next = expected;
     let mut count = 0;

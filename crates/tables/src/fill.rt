@@ -3,7 +3,7 @@
 ghost use Rattle.std.specs.Prelude.{◌≡◌, ◌+◌, get_or};
 ghost use Rattle.prefix.specs.Geometry.{block_size, block_of};
 ghost use Rattle.cells.specs.Cells.{segment_of};
-ghost use Rattle.cells.specs.Memory.{tables, tables_in, tables_out};
+ghost use Rattle.cells.specs.Memory.{tables_of};
 ghost use Rattle.tables.specs.Cellwise.{paint_cell, repainted};
 ghost use Rattle.tables.specs.Changes.{opened_at, closed_at, left, leaves};
 ghost use Rattle.tables.specs.inner.Ready.{Openable, Closable};
@@ -61,11 +61,11 @@ pub fn open_and_paint(
     segment: usize,
     new: u32,
 ) -> u32
-    requires openable { Openable territory prefix segment (tables first long owners) }
+    requires openable { Openable territory prefix segment (tables_of first.old long.old owners.old) }
     requires block_value { block ≡ block_of territory prefix.address }
-    ensures { left result (tables_out first long owners)
+    ensures { left result (tables_of first.new long.new owners.new)
         ≡ leaves (λ x. repainted territory prefix (λ a. paint_cell prefix.length new) (opened_at block segment x))
-        (tables_in first long owners) }
+        (tables_of first.old long.old owners.old) }
 {
     let cell = first[block];
     let painted = paint::paint_cell(cell, new, prefix.length);
@@ -87,10 +87,10 @@ pub fn close(
     block: usize,
     cell: u32,
 ) -> u32
-    requires closable { Closable territory prefix (tables first long owners) }
+    requires closable { Closable territory prefix (tables_of first.old long.old owners.old) }
     requires block_value { block ≡ block_of territory prefix.address }
-    ensures { left result (tables_out first long owners)
-        ≡ leaves (closed_at block (segment_of (get_or first.old block 0)) cell) (tables_in first long owners) }
+    ensures { left result (tables_of first.new long.new owners.new)
+        ≡ leaves (closed_at block (segment_of (get_or first.old block 0)) cell) (tables_of first.old long.old owners.old) }
 {
     let pointer = first[block];
     let segment = Cell::segment(pointer);

@@ -2,7 +2,7 @@
 ghost use Rattle.std.specs.Prelude.{◌≡◌, ◌+◌};
 ghost use Rattle.ground.specs.Lists.{differs};
 ghost use Rattle.prefix.specs.Geometry.{touched};
-ghost use Rattle.cells.specs.Memory.{tables, tables_in, tables_out};
+ghost use Rattle.cells.specs.Memory.{tables_of};
 ghost use Rattle.tables.specs.Cellwise.{paint_cell, repainted};
 ghost use Rattle.tables.specs.Changes.{left, leaves};
 ghost use Rattle.tables.specs.inner.Ready.{Repaintable};
@@ -60,8 +60,8 @@ fn paint_block(
     new: u32,
     length: u32,
 ) -> u32
-    requires { BlocksReady territory block (block + 1) (tables first long owners) }
-    ensures { BlocksChanged territory (λ a. paint_cell length new) block (block + 1) (tables_in first long owners)
+    requires { BlocksReady territory block (block + 1) (tables_of first.old long.old owners.now) }
+    ensures { BlocksChanged territory (λ a. paint_cell length new) block (block + 1) (tables_of first.old long.old owners.now)
         first.new long.new result }
 {
     let cell = first[block];
@@ -85,8 +85,8 @@ fn paint_blocks(
     new: u32,
     length: u32,
 ) -> u32
-    requires { BlocksReady territory from to (tables first long owners) }
-    ensures { BlocksChanged territory (λ a. paint_cell length new) from to (tables_in first long owners)
+    requires { BlocksReady territory from to (tables_of first.old long.old owners.now) }
+    ensures { BlocksChanged territory (λ a. paint_cell length new) from to (tables_of first.old long.old owners.now)
         first.new long.new result }
 {
     let mut changed: u32 = 0;
@@ -108,10 +108,10 @@ pub fn paint(
     blocks: Blocks,
     new: u32,
 ) -> u32
-    requires repaintable { Repaintable territory prefix (tables first long owners) }
+    requires repaintable { Repaintable territory prefix (tables_of first.old long.old owners.now) }
     requires blocks_value { blocks ≡ touched territory prefix }
-    ensures { left result (tables_out first long owners)
-        ≡ leaves (repainted territory prefix (λ a. paint_cell prefix.length new)) (tables_in first long owners) }
+    ensures { left result (tables_of first.new long.new owners.now)
+        ≡ leaves (repainted territory prefix (λ a. paint_cell prefix.length new)) (tables_of first.old long.old owners.now) }
 {
     let length = prefix.length;
     let block = blocks.from;

@@ -5,7 +5,7 @@
 
 ghost use Rattle.std.specs.Prelude.{◌≡◌, true, ◌+◌, ◌-◌, ◌^◌, ◌≤◌, ◌<◌};
 ghost use Rattle.prefix.specs.Geometry.{block_start, touched};
-ghost use Rattle.cells.specs.Memory.{tables, tables_in, tables_out};
+ghost use Rattle.cells.specs.Memory.{tables_of};
 ghost use Rattle.rules.specs.Rules.{routes};
 ghost use Rattle.rules.specs.inner.Places.{Listed};
 ghost use Rattle.tables.specs.Cellwise.{unpaint_cell, repainted};
@@ -217,10 +217,10 @@ fn unpaint_some(
     length: u32,
     run: Run,
 ) -> Part
-    requires blocks_ready { BlocksReady territory block to (tables first long owners) }
+    requires blocks_ready { BlocksReady territory block to (tables_of first.old long.old owners.now) }
     requires block_lt_to { block < to }
     requires asking { Asking rules.now used (block_start territory block) run }
-    ensures { SomeUnpainted territory length rules.now used block to (tables_in first long owners)
+    ensures { SomeUnpainted territory length rules.now used block to (tables_of first.old long.old owners.now)
         first.new long.new result.changed result.run result.to }
 {
     let start = block_start(territory, block);
@@ -257,9 +257,9 @@ fn unpaint_blocks(
     length: u32,
     run: Run,
 ) -> Tally
-    requires blocks_ready { BlocksReady territory from to (tables first long owners) }
+    requires blocks_ready { BlocksReady territory from to (tables_of first.old long.old owners.now) }
     requires asking { Asking rules.now used (block_start territory from) run }
-    ensures { BlocksUnpainted territory length rules.now used from to (tables_in first long owners)
+    ensures { BlocksUnpainted territory length rules.now used from to (tables_of first.old long.old owners.now)
         first.new long.new result.changed result.run }
 {
     let mut changed: u32 = 0;
@@ -288,12 +288,12 @@ pub fn unpaint(
     prefix: Prefix,
     blocks: Blocks,
 ) -> u32
-    requires repaintable { Repaintable territory prefix (tables first long owners) }
+    requires repaintable { Repaintable territory prefix (tables_of first.old long.old owners.now) }
     requires blocks_value { blocks ≡ touched territory prefix }
     requires listed { Listed rules.now used }
-    ensures { left result (tables_out first long owners)
+    ensures { left result (tables_of first.new long.new owners.now)
         ≡ leaves (repainted territory prefix (unpaint_cell prefix.length (routes rules.now)))
-        (tables_in first long owners) }
+        (tables_of first.old long.old owners.now) }
 {
     let length = prefix.length;
     let block = blocks.from;

@@ -3,7 +3,7 @@
 #![tactic(auto)]
 
 ghost use Rattle.std.specs.Prelude.{◌≡◌};
-ghost use Rattle.cells.specs.Memory.{lent_in, lent_out};
+ghost use Rattle.cells.specs.Memory.{lent_of};
 ghost use Rattle.rules.specs.Words.{route_by};
 ghost use Rattle.refusals.specs.Codes.{announces, withdraws, re_homes};
 ghost use Rattle.updates.specs.Calls.{reported, step, clear};
@@ -31,8 +31,8 @@ pub fn clear(
     rules: &mut [u64],
     territory: Prefix,
 ) -> u32
-    ensures { reported (record { code = result; cells = 0 }) (lent_out first long owners rules)
-        ≡ clear territory (lent_in first long owners rules) }
+    ensures { reported (record { code = result; cells = 0 }) (lent_of first.new long.new owners.new rules.new)
+        ≡ clear territory (lent_of first.old long.old owners.old rules.old) }
 {
     let code = codes::clear_checked(first, long, owners, rules, territory);
     if code != 0 {
@@ -55,8 +55,8 @@ pub fn announce(
     prefix: Prefix,
     hop: u32,
 ) -> Report
-    ensures { reported result (lent_out first long owners rules)
-        ≡ step territory (announces (route_by prefix hop)) (lent_in first long owners rules) }
+    ensures { reported result (lent_of first.new long.new owners.new rules.new)
+        ≡ step territory (announces (route_by prefix hop)) (lent_of first.old long.old owners.old rules.old) }
 {
     let checked = codes::announce_checked(first, long, owners, rules, territory, prefix, hop);
     put::put_checked(first, long, owners, rules, territory, prefix, hop, checked)
@@ -72,8 +72,8 @@ pub fn re_home(
     prefix: Prefix,
     hop: u32,
 ) -> Report
-    ensures { reported result (lent_out first long owners rules)
-        ≡ step territory (re_homes (route_by prefix hop)) (lent_in first long owners rules) }
+    ensures { reported result (lent_of first.new long.new owners.new rules.new)
+        ≡ step territory (re_homes (route_by prefix hop)) (lent_of first.old long.old owners.old rules.old) }
 {
     let checked = codes::re_home_checked(first, long, owners, rules, territory, prefix, hop);
     put::put_checked(first, long, owners, rules, territory, prefix, hop, checked)
@@ -88,8 +88,8 @@ pub fn withdraw(
     territory: Prefix,
     prefix: Prefix,
 ) -> Report
-    ensures { reported result (lent_out first long owners rules)
-        ≡ step territory (withdraws prefix) (lent_in first long owners rules) }
+    ensures { reported result (lent_of first.new long.new owners.new rules.new)
+        ≡ step territory (withdraws prefix) (lent_of first.old long.old owners.old rules.old) }
 {
     let checked = codes::withdraw_checked(first, long, owners, rules, territory, prefix);
     take::take_checked(first, long, owners, rules, territory, prefix, checked)

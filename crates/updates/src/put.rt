@@ -2,7 +2,7 @@
 // be, and the route is put among the rules.
 ghost use Rattle.std.specs.Prelude.{◌≡◌};
 ghost use Rattle.prefix.specs.Routes.{puts};
-ghost use Rattle.cells.specs.Memory.{tables, tables_in, tables_out, lent, lent_in, lent_out};
+ghost use Rattle.cells.specs.Memory.{lent_of, tables_of};
 ghost use Rattle.rules.specs.Words.{route_by};
 ghost use Rattle.tables.specs.Changes.{left, leaves};
 ghost use Rattle.updates.specs.Calls.{reported, outcome};
@@ -30,9 +30,9 @@ fn paint_route(
     opens: bool,
     segment: usize,
 ) -> u32
-    requires { Paintable territory (route_by prefix hop) blocks opens segment (tables first long owners) }
-    ensures { left result (tables_out first long owners)
-        ≡ leaves (painted territory (route_by prefix hop)) (tables_in first long owners) }
+    requires { Paintable territory (route_by prefix hop) blocks opens segment (tables_of first.old long.old owners.old) }
+    ensures { left result (tables_of first.new long.new owners.new)
+        ≡ leaves (painted territory (route_by prefix hop)) (tables_of first.old long.old owners.old) }
 {
     let new = Cell::pack(hop, prefix.length);
     if opens {
@@ -61,10 +61,10 @@ pub fn put_checked(
     hop: u32,
     checked: Checked,
 ) -> Report
-    requires { checked.code ≡ 0 → Puttable territory (route_by prefix hop) checked (lent first long owners rules) }
-    ensures { reported result (lent_out first long owners rules)
-        ≡ outcome checked.code (lent_in first long owners rules)
-        (effect territory (puts (route_by prefix hop)) (lent_in first long owners rules)) }
+    requires { checked.code ≡ 0 → Puttable territory (route_by prefix hop) checked (lent_of first.old long.old owners.old rules.old) }
+    ensures { reported result (lent_of first.new long.new owners.new rules.new)
+        ≡ outcome checked.code (lent_of first.old long.old owners.old rules.old)
+        (effect territory (puts (route_by prefix hop)) (lent_of first.old long.old owners.old rules.old)) }
 {
     if checked.code != 0 {
         return Report {

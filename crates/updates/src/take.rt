@@ -4,7 +4,7 @@ ghost use Rattle.std.specs.Prelude.{◌≡◌, not, ◌&&◌, ◌%◌, ltb};
 ghost use Rattle.prefix.specs.Geometry.{width, block_size, touched};
 ghost use Rattle.prefix.specs.Price.{is_open};
 ghost use Rattle.prefix.specs.Routes.{takes};
-ghost use Rattle.cells.specs.Memory.{tables, tables_in, tables_out, lent, lent_in, lent_out};
+ghost use Rattle.cells.specs.Memory.{lent_of, tables_of};
 ghost use Rattle.rules.specs.Rules.{routes};
 ghost use Rattle.rules.specs.inner.Places.{Listed};
 ghost use Rattle.tables.specs.Changes.{left, leaves};
@@ -45,11 +45,11 @@ fn unpaint_or_close(
     prefix: Prefix,
     blocks: Blocks,
 ) -> u32
-    requires repaintable { Repaintable territory prefix (tables first long owners) }
+    requires repaintable { Repaintable territory prefix (tables_of first.old long.old owners.old) }
     requires listed { Listed rules.now used }
     requires blocks_value { blocks ≡ touched territory prefix }
-    ensures { left result (tables_out first long owners)
-        ≡ leaves (unpainted territory prefix (routes rules.now)) (tables_in first long owners) }
+    ensures { left result (tables_of first.new long.new owners.new)
+        ≡ leaves (unpainted territory prefix (routes rules.now)) (tables_of first.old long.old owners.old) }
 {
     let block = blocks.from;
     let start = block_start(territory, block);
@@ -70,10 +70,10 @@ pub fn take_checked(
     prefix: Prefix,
     checked: Checked,
 ) -> Report
-    requires { checked.code ≡ 0 → Takable territory prefix checked (lent first long owners rules) }
-    ensures { reported result (lent_out first long owners rules)
-        ≡ outcome checked.code (lent_in first long owners rules)
-        (effect territory (takes prefix) (lent_in first long owners rules)) }
+    requires { checked.code ≡ 0 → Takable territory prefix checked (lent_of first.old long.old owners.old rules.old) }
+    ensures { reported result (lent_of first.new long.new owners.new rules.new)
+        ≡ outcome checked.code (lent_of first.old long.old owners.old rules.old)
+        (effect territory (takes prefix) (lent_of first.old long.old owners.old rules.old)) }
 {
     if checked.code != 0 {
         return Report {

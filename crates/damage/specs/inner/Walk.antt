@@ -1,5 +1,5 @@
 -- What the parts of the walk along blocks and rules answer. Assumes nothing.
-use Rattle.std.specs.Prelude.{ℕ, ◌+◌, ◌≤◌, ◌<◌, Bool, List, [], length, get_or}
+use Rattle.std.specs.Prelude.{ℕ, ◌+◌, ◌≤◌, ◌<◌, Bool, List, length, get_or}
 use Rattle.ground.specs.Lists.{every_below}
 use Rattle.rules.specs.inner.Blocks.{CursorAt}
 use Rattle.prefix.specs.declared.Prefix.{Prefix}
@@ -7,16 +7,12 @@ use Rattle.prefix.specs.declared.geometry.Blocks.{Blocks}
 use Rattle.prefix.specs.Geometry.{block_start}
 use Rattle.prefix.specs.Routes.{Route}
 use Rattle.rules.specs.inner.Places.{Listed}
-use Rattle.cells.specs.Memory.{Tables, Sized, Slice}
+use Rattle.cells.specs.Memory.{Tables, Sized}
 use Rattle.damage.specs.Damage.{is_clean, block_sound}
 
 -- each of the cells from `from` on, `count` of them, is 0 or direct
 unfoldable pub clean_run : ℕ → List ℕ → ℕ → ℕ → Bool
 clean_run longest cells from count = every_below count (λ i. is_clean longest (get_or cells (from + i) 0))
-
--- the long table and the owner words alone, as a contract names them at entry
-abbrev pub long_in : (long owners : Slice) → Tables
-long_in long owners = record { first = []; long = long.entry.now; owners = owners.entry.now }
 
 -- each of the blocks is sound, with the routes rs live
 unfoldable pub sound_run : Prefix → Blocks → List Route → Tables → Bool
