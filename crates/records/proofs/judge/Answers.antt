@@ -2,13 +2,8 @@
 use Rattle.std.proofs.Common.{◌≡◌, true, false, not, eqb, sym, ◌∙◌, rules}
 use Rattle.records.specs.Record.{known, stray_hop}
 use Rattle.records.proofs.Laws.{other_kind, other_serial, hop_astray, none_refuses}
-use Rattle.records.proofs.judge.Goals.{After-has_stray_hop-stray_hop}
 use Rattle.std.proofs.Common.{ap, not}
 use Rattle.records.proofs.judge.Goals as goal
-
--- the hop tested is the update's
-hop-tested : (c : After-has_stray_hop-stray_hop) → let s = c.args in c.has_stray_hop-stray_hop.result ≡ stray_hop s.update.kind s.update.hop
-hop-tested c = c.has_stray_hop-stray_hop.ensures
 
 pub returns-then-not-known_kind : goal.returns-then-not-known_kind
 returns-then-not-known_kind c =
@@ -27,18 +22,22 @@ returns-then-not-expected_serial c =
 
 pub returns-then-stray_hop : goal.returns-then-stray_hop
 returns-then-stray_hop c =
+    let hop-tested : let s = c.args in c.has_stray_hop-stray_hop.result ≡ stray_hop s.update.kind s.update.hop =
+    c.has_stray_hop-stray_hop.ensures in
     let h = c in
     let k = h in
-    let s = k.before.args in
-    let kind : not (known s.update.kind) ≡ false = cc (k.is_Known.ensures, (ap not c.if-not-known_kind.false)) in
+    let s = k.args in
+    let kind : not (known s.update.kind) ≡ false = cc (k.is_known-known_kind.ensures, (ap not c.if-not-known_kind.false)) in
     let serial : not (eqb s.update.serial s.expected) ≡ false = cc (ap not c.if-not-expected_serial.false) in
-    c.refused-then-stray_hop.ensures ∙ hop_astray s.update s.expected kind serial (sym (hop-tested h) ∙ c.if-stray_hop.true)
+    c.refused-then-stray_hop.ensures ∙ hop_astray s.update s.expected kind serial (sym hop-tested ∙ c.if-stray_hop.true)
 
 pub returns : goal.returns
 returns c =
+    let hop-tested : let s = c.args in c.has_stray_hop-stray_hop.result ≡ stray_hop s.update.kind s.update.hop =
+    c.has_stray_hop-stray_hop.ensures in
     let h = c in
     let k = h in
-    let s = k.before.args in
-    let kind : not (known s.update.kind) ≡ false = cc (k.is_Known.ensures, (ap not c.if-not-known_kind.false)) in
+    let s = k.args in
+    let kind : not (known s.update.kind) ≡ false = cc (k.is_known-known_kind.ensures, (ap not c.if-not-known_kind.false)) in
     let serial : not (eqb s.update.serial s.expected) ≡ false = cc (ap not c.if-not-expected_serial.false) in
-    none_refuses s.update s.expected kind serial (sym (hop-tested h) ∙ c.if-stray_hop.false)
+    none_refuses s.update s.expected kind serial (sym hop-tested ∙ c.if-stray_hop.false)

@@ -23,6 +23,6 @@ pub returns : goal.returns
 returns c =
     let p = c in
     let h = p in
-    let k = h.before.before.before in
-    let s = k.before.before.before.args in
-    fills s.room.now s.update (omega (arith, k.before.if1.false)) (sym (ap not k.is_Known.ensures) ∙ h.before.before.if2.false) p.put.new.0 (sym h.before.has-stray-hop.ensures ∙ h.if3.false) p.put.ensures
+    let k = h in
+    let s = k.args in
+    fills s.room.now s.update (omega (arith, k.if-room-lt-SIZE.false)) (sym (ap not k.is_known.ensures) ∙ (ap not h.if-not-is_known.false)) p.put.new.0 (sym h.has_stray_hop.ensures ∙ h.if-has_stray_hop.false) p.put.ensures

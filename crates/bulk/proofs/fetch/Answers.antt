@@ -1,0 +1,25 @@
+-- The goals that the check leaves.
+use Prim.Native.Nat.{◌-◌}
+use native.Mathlib.Omega.{arith}
+use lib.ListN.{get_or}
+use borrow.Author.Rules.{rules}
+use Rattle.bulk.specs.inner.Passes.{fetched_of}
+use Rattle.ground.proofs.Lists.{Passed, pass_none, pass_more, pass_left, pass_all}
+use Rattle.bulk.proofs.fetch.Goals as goal
+
+pub loop-i-init : goal.loop-i-init
+loop-i-init c = pass_none
+
+pub offset_bounds-first-answers : goal.offset_bounds-first-answers
+offset_bounds-first-answers c = omega (arith, c.slice_known-in-loop-i-1.given c.loop-i.i)
+
+pub bounds-first-answers : goal.bounds-first-answers
+bounds-first-answers c =
+    let turn = c in
+    omega (arith, pass_left turn.loop-i.invariant, turn.requires.by_index turn.loop-i.i (omega arith))
+
+pub loop-i-preserved : goal.loop-i-preserved
+loop-i-preserved c = pass_more c.loop-i.invariant c.fetched.ensures
+
+pub returns : goal.returns
+returns c = pass_all c.loop-i.invariant (omega arith)

@@ -1,0 +1,60 @@
+-- `bulk::look_up_all` meets its contract: where both tests pass, the three passes answer each address. Assumes nothing.
+use mathlib.Core.Path.{◌≡◌}
+use native.Mathlib.Omega.{arith}
+use lib.ListN.{length}
+use Rattle.prefix.proofs.Spans.{few_blocks}
+use Rattle.cells.proofs.Lending.{LentToRead}
+use Rattle.lookup.proofs.Reading.{stands}
+use Rattle.bulk.proofs.Answering.{not-lent, refuses, answered, places_lent, passes_all}
+use borrow.Author.Rules.{rules}
+use Rattle.bulk.proofs.look_up_all.Goals as goal
+
+pub returns-then-standing-ne0 : goal.returns-then-standing-ne0
+returns-then-standing-ne0 c =
+    let s = c.args in
+    refuses s.first.now s.long.now s.territory s.addresses.now s.answers.now
+    (λ h. not-lent (length s.first.now) (length s.long.now) s.territory (λ z. omega arith) h.0)
+
+pub returns-then-addresses-answers : goal.returns-then-addresses-answers
+returns-then-addresses-answers c =
+    let s = c.args in
+    refuses s.first.now s.long.now s.territory s.addresses.now s.answers.now (λ h. omega (arith, h.1, c.if-addresses-answers.true))
+
+pub overflow_cast-blocks : goal.overflow_cast-blocks
+overflow_cast-blocks c =
+    let may_read : let s = c.args in
+    LentToRead (length s.first.now) (length s.long.now) s.territory =
+    let zero : c.standing.result ≡ 0 = omega (arith, c.if-standing-ne0.false) in (stands c.standing.ensures zero).lent in
+    let s = c.args in
+    omega (arith, may_read.a_cell_a_block, few_blocks s.territory)
+
+pub fetch-requires : goal.fetch-requires
+fetch-requires c =
+    let may_read : let s = c.args in
+    LentToRead (length s.first.now) (length s.long.now) s.territory =
+    let zero : c.standing.result ≡ 0 = omega (arith, c.if-standing-ne0.false) in (stands c.standing.ensures zero).lent in
+    let room-each : let s = c.args in length s.addresses.now ≡ length s.answers.now =
+    omega (arith, c.if-addresses-answers.false) in
+    let s = c.args in record { answers_len = omega (arith, room-each); by_index = places_lent s.first.now s.long.now s.territory s.addresses.now s.answers.now
+          may_read c.places.ensures }
+
+pub returns : goal.returns
+returns c =
+    let may_read : let s = c.args in
+    LentToRead (length s.first.now) (length s.long.now) s.territory =
+    let zero : c.standing.result ≡ 0 = omega (arith, c.if-standing-ne0.false) in (stands c.standing.ensures zero).lent in
+    let room-each : let s = c.args in length s.addresses.now ≡ length s.answers.now =
+    omega (arith, c.if-addresses-answers.false) in
+    let judging = c in
+    let fetching = judging in
+    let placing = fetching in
+    let passed = placing in
+    let known = passed in
+    let start = known in
+    let s = start.args in
+    let l = may_read in
+    let e = room-each in
+    answered s.first.now s.long.now s.territory s.addresses.now s.answers.now (l, e)
+    (passes_all s.first.now s.long.now s.territory s.addresses.now s.answers.now l
+    (omega (arith, start.well_formed)) (λ i h. omega (arith, known.shared_slice_known-3-1.given i)) e
+    placing.places.ensures fetching.fetch.ensures judging.judge.ensures)

@@ -1,0 +1,7 @@
+-- `blocks::is_open` meets its contract: past the rules of the block the cursor knows whether one opens it. Assumes nothing.
+use native.Mathlib.Omega.{arith}
+use borrow.Author.Rules.{rules}
+use Rattle.rules.proofs.blocks.is_open.Goals as goal
+
+pub pass-passed-requires : goal.pass-passed-requires
+pass-passed-requires c = let s = c in record { listed = s.requires.listed; cursor_at = c.cursor_at-at.ensures; block_size_value = (s.requires.block_size_value, omega (arith, s.ranges.start)) }

@@ -1,0 +1,37 @@
+-- The goals that the check leaves.
+use mathlib.Core.Path.{sym, ap, subst}
+use mathlib.Core.Bool.{◌||◌}
+use Prim.Native.Nat.{ℕ, ◌+◌, ◌-◌}
+use native.Mathlib.Omega.{arith}
+use lib.Dec.{ltb}
+use borrow.Author.Rules.{rules}
+use Rattle.prefix.specs.Geometry.{width}
+use Rattle.rules.proofs.Indices.{listed_within}
+use Rattle.rules.proofs.Cursor.{Passing, passing_start, passing_more, passing_met}
+use Rattle.rules.proofs.blocks.pass.Goals as goal
+
+pub loop-i-init : goal.loop-i-init
+loop-i-init c = passing_start _ _ _ _ c.requires.cursor_at
+
+pub offset_bounds-rules-i : goal.offset_bounds-rules-i
+offset_bounds-rules-i c = omega (arith, listed_within c.requires.listed)
+
+pub bounds-rules-i : goal.bounds-rules-i
+bounds-rules-i c = omega (arith, listed_within c.requires.listed)
+
+pub returns-then-start-address : goal.returns-then-start-address
+returns-then-start-address c =
+    let s = c in
+    passing_met _ _ _ _ _ _ s.requires.listed s.requires.block_size_value.0 s.requires.cursor_at c.loop-i.invariant (λ l. omega arith)
+
+pub loop-i-preserved : goal.loop-i-preserved
+loop-i-preserved c =
+    let s = c.args in
+    let here = c.loop-i in
+    subst (Passing s.rules.now s.used s.start s.at (here.i + 1)) (ap (λ (l : ℕ). here.opened || ltb width l) (sym c.length.ensures))
+    (passing_more s.rules.now s.used s.start s.at here.i here.opened here.invariant (omega arith) (omega arith))
+
+pub returns : goal.returns
+returns c =
+    let s = c in
+    passing_met _ _ _ _ _ _ s.requires.listed s.requires.block_size_value.0 s.requires.cursor_at c.loop-i.invariant (λ l. absurd (omega arith))

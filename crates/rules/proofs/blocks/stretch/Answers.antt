@@ -1,0 +1,32 @@
+-- `blocks::stretch` meets its contract: up to the block of the rule at the cursor, or to the end, no rule's address lies. Assumes nothing.
+use Prim.Native.Nat.{◌-◌, ◌/◌}
+use native.Mathlib.Omega.{arith}
+use Rattle.rules.proofs.Indices.{listed_within}
+use Rattle.prefix.specs.Geometry.{block_size}
+use Rattle.rules.proofs.Cursor.{stretch_to}
+use borrow.Author.Rules.{rules}
+use Rattle.rules.proofs.blocks.stretch.Goals as goal
+
+pub returns-then-at-used : goal.returns-then-at-used
+returns-then-at-used c =
+    let s = c in
+    stretch_to s.args.left s.requires.listed s.requires.cursor_at (omega arith) (λ l. absurd (omega arith))
+
+pub offset_bounds-rules-at : goal.offset_bounds-rules-at
+offset_bounds-rules-at c = omega (arith, listed_within c.requires.listed)
+
+pub bounds-rules-at : goal.bounds-rules-at
+bounds-rules-at c = omega (arith, listed_within c.requires.listed)
+
+pub overflow_sub-ahead : goal.overflow_sub-ahead
+overflow_sub-ahead c = let s = c in omega (arith, s.requires.cursor_at.above s.args.at (omega arith) (omega arith))
+
+pub returns-then-left-ahead : goal.returns-then-left-ahead
+returns-then-left-ahead c =
+    let s = c in
+    stretch_to s.args.left s.requires.listed s.requires.cursor_at (omega arith) (λ l. omega (arith, s.requires.cursor_at.above s.args.at (omega arith) l))
+
+pub returns : goal.returns
+returns c =
+    let s = c in
+    stretch_to ((c.address.result - s.args.start) / block_size) s.requires.listed s.requires.cursor_at (omega arith) (λ l. omega (arith, s.requires.cursor_at.above s.args.at (omega arith) l))

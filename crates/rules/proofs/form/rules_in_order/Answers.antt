@@ -1,0 +1,33 @@
+-- The goals that the check leaves.
+use mathlib.Core.Path.{sym, ◌∙◌}
+use Prim.Native.Nat.{ℕ, ◌-◌}
+use native.Mathlib.Omega.{arith}
+use lib.ListN.{length, get_or}
+use borrow.Author.Rules.{rules}
+use borrow.Author.Tests.{not-true, not-false}
+use Rattle.ground.proofs.Tests.{says, denies}
+use Rattle.rules.proofs.Words.{word_room}
+use Rattle.rules.proofs.Counts.{OrderedTo, ordered_none, next?, ordered_more, counted_stop, counted_all}
+use Rattle.rules.proofs.form.rules_in_order.Goals as goal
+
+pub loop-i-init : goal.loop-i-init
+loop-i-init c = ordered_none _ _
+
+pub returns-then-not-next : goal.returns-then-not-next
+returns-then-not-next c =
+    let inv = c.loop-i.invariant in
+    counted_stop inv (denies (next? inv) (sym c.is_next-next.ensures ∙ c.if-not-next.true))
+
+pub overflow_add-low : goal.overflow_add-low
+overflow_add-low c =
+    let at = c in
+    let w : ℕ = get_or at.args.rules.now at.loop-i.i 0 in
+    omega (arith, word_room w (omega arith))
+
+pub loop-i-preserved : goal.loop-i-preserved
+loop-i-preserved c =
+    let inv = c.loop-i.invariant in
+    ordered_more inv (omega arith) (says (next? inv) (sym c.is_next-next.ensures ∙ c.if-not-next.false)) (omega arith)
+
+pub returns : goal.returns
+returns c = counted_all c.loop-i.invariant c.loop-i-test.false

@@ -1,0 +1,15 @@
+-- `list::between` meets its contract. The invariant is `Bracket`: low and high bracket the answer. The measure is high - low.
+-- Assumes nothing.
+use Prim.Native.Nat.{◌-◌}
+use native.Mathlib.Omega.{arith}
+use borrow.Author.Rules.{rules}
+use Rattle.rules.proofs.Indices.{listed_within}
+use Rattle.rules.specs.inner.Places.{Bracket}
+use Rattle.rules.proofs.Searches.{bracket_up, bracket_down, bracket_met}
+use Rattle.rules.proofs.list.between.Given as goal
+
+abbrev pub invariant-loop-low : goal.invariant-loop-low
+invariant-loop-low l = Bracket l.rules l.used l.key l.low l.high
+
+abbrev pub decreases-loop-low : goal.decreases-loop-low
+decreases-loop-low l = l.high - l.low

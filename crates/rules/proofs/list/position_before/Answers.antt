@@ -1,0 +1,49 @@
+-- The goals that the check leaves.
+use Prim.Native.Nat.{◌-◌, ◌≤◌}
+use native.Mathlib.Omega.{arith}
+use borrow.Author.Rules.{rules}
+use Rattle.rules.specs.inner.Places.{Bracket}
+use Rattle.rules.proofs.Indices.{listed_within}
+use Rattle.rules.proofs.Searches.{bracket_up, bracket_down}
+use Rattle.rules.proofs.list.position_before.Goals as goal
+
+pub loop-stride-init : goal.loop-stride-init
+loop-stride-init c = (c.requires.bracket, omega arith)
+
+pub offset_bounds-rules-at : goal.offset_bounds-rules-at
+offset_bounds-rules-at c = omega (arith, listed_within c.requires.listed, c.loop-stride.invariant.0.high_le)
+
+pub bounds-rules-at : goal.bounds-rules-at
+bounds-rules-at c =
+    let at-loop = c in
+    omega (arith, listed_within at-loop.requires.listed, at-loop.loop-stride.invariant.0.high_le, at-loop.loop-stride.invariant.1)
+
+pub overflow_add-at : goal.overflow_add-at
+overflow_add-at c =
+    let at-loop = c in
+    omega (arith, listed_within at-loop.requires.listed, at-loop.loop-stride.invariant.0.high_le)
+
+pub between-requires : goal.between-requires
+between-requires c =
+    let at-loop = c in
+    let s = at-loop.requires.listed in
+    let b = bracket_up s at-loop.loop-stride.invariant.0 (at-loop.loop-stride.high - at-loop.loop-stride.stride) (omega arith) (omega (arith, at-loop.loop-stride.invariant.1)) (omega arith) in
+    record { listed = s; bracket = record { low_le = omega (arith, b.low_le); high_le = b.high_le; below = λ i h. b.below i (omega arith); above = b.above } }
+
+pub overflow_add-stride : goal.overflow_add-stride
+overflow_add-stride c =
+    let at-loop = c in
+    omega (arith, listed_within at-loop.requires.listed, at-loop.loop-stride.invariant.0.high_le)
+
+pub loop-stride-smaller : goal.loop-stride-smaller
+loop-stride-smaller c = omega (arith, c.loop-stride.invariant.1)
+
+pub loop-stride-preserved : goal.loop-stride-preserved
+loop-stride-preserved c =
+    let at-loop = c in (
+      bracket_down at-loop.requires.listed at-loop.loop-stride.invariant.0 _ (omega arith) (omega (arith, at-loop.loop-stride.invariant.1)) (omega arith),
+      omega (arith, at-loop.loop-stride.invariant.1),
+    )
+
+pub between-requires-2 : goal.between-requires-2
+between-requires-2 c = record { listed = c.requires.listed; bracket = c.loop-stride.invariant.0 }

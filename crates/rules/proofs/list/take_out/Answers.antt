@@ -1,0 +1,21 @@
+-- `list::take_out` meets its contract: the word of a live prefix is at the place, and no other has its key. Assumes nothing.
+use mathlib.Core.Path.{◌≡◌, ◌∙◌}
+use native.Mathlib.Omega.{arith}
+use borrow.Author.Rules.{rules}
+use Rattle.rules.specs.inner.Places.{removed_at}
+use Rattle.rules.proofs.Indices.{listed_within}
+use Rattle.rules.proofs.Changes.{place_live, taken_out}
+use Rattle.rules.proofs.list.take_out.Goals as goal
+
+pub remove_at-requires : goal.remove_at-requires
+remove_at-requires c =
+    let s = c.requires in
+    (omega (arith, (place_live s.listed s.well_formed s.place_is s.found_value).0), omega (arith, listed_within s.listed))
+
+pub returns : goal.returns
+returns c =
+    let at = c in
+    let s = at.requires in
+    let args = at.args in
+    let taken : _ ≡ removed_at args.rules.now args.used args.place.at = at.remove_at.ensures in
+    taken ∙ taken_out s.listed s.well_formed s.place_is s.found_value

@@ -1,0 +1,9 @@
+-- `Rule::address` meets its contract, by the layout of a word. Assumes nothing.
+use mathlib.Core.Path.{ap}
+use borrow.Author.Rules.{rules}
+use Rattle.prefix.specs.Routes.{Route}
+use Rattle.rules.proofs.Words.{route_is}
+use Rattle.rules.proofs.word.Rule.address.Goals as goal
+
+pub returns : goal.returns
+returns c = ap (λ (r : Route). r.prefix.address) (route_is c.args.word)

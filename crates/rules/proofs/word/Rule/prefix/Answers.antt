@@ -1,0 +1,6 @@
+-- `Rule::prefix` meets its contract, field by field. Assumes nothing.
+use borrow.Author.Rules.{rules}
+use Rattle.rules.proofs.word.Rule.prefix.Goals as goal
+
+pub returns : goal.returns
+returns c = λ i. record { address = c.address.ensures i; length = c.length.ensures i }

@@ -1,0 +1,15 @@
+-- `fill::fill_run` meets its contract. The loop's invariant: the cells before i have the value, and `changed` of them differ. The measure is
+-- what is left of the run. Assumes nothing.
+use mathlib.Core.Path.{refl}
+use Prim.Native.Nat.{◌-◌}
+use native.Mathlib.Omega.{arith}
+use borrow.Author.Rules.{rules}
+use Rattle.ground.proofs.Lists.{differs_small}
+use Rattle.tables.proofs.Ranges.{Reached, start, turn, finish}
+use Rattle.tables.proofs.fill.fill_run.Given as goal
+
+abbrev pub invariant-loop-i : goal.invariant-loop-i
+invariant-loop-i l = Reached (λ k x. l.value) l.from l.to l.initial.cells l.cells l.changed l.i
+
+abbrev pub decreases-loop-i : goal.decreases-loop-i
+decreases-loop-i l = l.to - l.i

@@ -1,0 +1,39 @@
+-- `paint::paint_block` meets its contract. Where the block's first cell is a pointer, its segment is painted and nothing else is; where it is
+-- not, that cell is. Assumes nothing.
+use mathlib.Core.Path.{sym, ◌∙◌}
+use native.Mathlib.Omega.{arith}
+use borrow.Author.Tests.{leb-true, leb-false}
+use borrow.Author.Rules.{rules}
+use Rattle.cells.specs.Memory.{tables_of}
+use Rattle.tables.specs.inner.Ready.{segment_at, Owns}
+use Rattle.tables.proofs.Blocks.{block_direct, block_points, owns_one, segment_within}
+use Rattle.tables.proofs.paint.paint_block.Goals as goal
+
+pub segment_cells-range-requires : goal.segment_cells-range-requires
+segment_cells-range-requires c =
+    let owns : let a = c.args in let T = tables_of a.first.now a.long.now a.owners.now in Owns T a.block (segment_at T a.block) =
+    owns_one c.requires (leb-true _ _ (sym c.is_pointer.ensures ∙ c.if-is_pointer.true)) in
+    omega (arith, owns.points)
+
+pub paint_run-requires : goal.paint_run-requires
+paint_run-requires c =
+    let owns : let a = c.args in let T = tables_of a.first.now a.long.now a.owners.now in Owns T a.block (segment_at T a.block) =
+    owns_one c.requires (leb-true _ _ (sym c.is_pointer.ensures ∙ c.if-is_pointer.true)) in
+    let k = c in
+    let run = c.segment_cells-range.ensures in
+    segment_within k.requires.sized owns (omega (arith, run.low)) (omega (arith, run.high)) (omega (arith, run.low, run.high))
+
+pub returns-then-is_pointer : goal.returns-then-is_pointer
+returns-then-is_pointer c =
+    let owns : let a = c.args in let T = tables_of a.first.now a.long.now a.owners.now in Owns T a.block (segment_at T a.block) =
+    owns_one c.requires (leb-true _ _ (sym c.is_pointer.ensures ∙ c.if-is_pointer.true)) in
+    let at-run = c in
+    let at_cells = at-run in
+    let run = at_cells.segment_cells-range.ensures in
+    block_points _ _ owns (omega (arith, run.low)) (omega (arith, run.high)) at-run.paint_run.ensures
+
+pub returns : goal.returns
+returns c =
+    let at-else = c in
+    block_direct _ _ (omega arith) (leb-false _ _ (sym at-else.is_pointer.ensures ∙ at-else.if-is_pointer.false)) c.paint_cell-next.ensures
+    c.differ.ensures

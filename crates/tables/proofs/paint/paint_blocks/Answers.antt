@@ -1,0 +1,34 @@
+-- The goals that the check leaves.
+use Prim.Native.Nat.{◌-◌, ◌≤◌}
+use native.Mathlib.Nat.{le_antisymm}
+use native.Mathlib.Omega.{arith}
+use borrow.Author.Rules.{rules}
+use Rattle.tables.specs.Cellwise.{paint_cell}
+use Rattle.tables.specs.inner.Ranges.{BlocksChanged}
+use Rattle.cells.specs.Memory.{tables_of}
+use Rattle.tables.proofs.Blocks.{blocks_none, few_blocks, blocks_then, ready_then, same_firsts, same_longs}
+use Rattle.tables.proofs.paint.paint_blocks.Goals as goal
+
+pub loop-block-init : goal.loop-block-init
+loop-block-init c = (omega arith, omega arith, blocks_none _ _ _ _)
+
+pub paint_block-changed-requires : goal.paint_block-changed-requires
+paint_block-changed-requires c =
+    let at-loop = c in
+    ready_then at-loop.loop-block.invariant.2 at-loop.loop-block.invariant.0 (omega arith) (omega arith) at-loop.requires
+
+pub loop-block-preserved : goal.loop-block-preserved
+loop-block-preserved c = (
+  omega arith,
+  omega arith,
+  blocks_then c.loop-block.invariant.2 c.loop-block.invariant.0 (omega arith) c.paint_block-changed.ensures,
+)
+
+-- the sum is the count of the next turn's invariant
+pub overflow_add-changed : goal.overflow_add-changed
+overflow_add-changed c =
+    let then = blocks_then c.loop-block.invariant.2 c.loop-block.invariant.0 (omega arith) c.paint_block-changed.ensures in
+    record { fits = few_blocks then c.requires }
+
+pub returns : goal.returns
+returns c = let done = le_antisymm c.loop-block.invariant.1 c.loop-block-test.false in rw done at c.loop-block.invariant.2

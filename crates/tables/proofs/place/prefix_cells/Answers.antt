@@ -1,0 +1,11 @@
+-- `place::prefix_cells` meets its contract: a segment's number times 256 and a place in it fit easily. Assumes nothing.
+use Prim.Native.Nat.{◌-◌}
+use native.Mathlib.Omega.{arith}
+use lib.Pow.{pow_mono}
+use borrow.Author.Rules.{rules}
+use Rattle.tables.proofs.place.prefix_cells.Goals as goal
+
+pub overflow_add-to : goal.overflow_add-to
+overflow_add-to c =
+    let s = c in
+    omega (arith, pow_mono {i = 32 - s.args.prefix.length} {j = 7} (omega (arith, s.requires.width_lt_length.0)), c.span_of.ensures)
