@@ -9,7 +9,7 @@ use lookup::look::Answer;
 use prefix::Prefix;
 
 // Both tables, to be read only, and the territory.
-#[derive(Drop)]
+#[derive(Clone, Copy)]
 pub struct View<'a, 'b> {
     pub first: &'a [u32],
     pub long: &'b [u32],

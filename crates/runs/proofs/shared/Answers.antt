@@ -3,12 +3,11 @@
 use native.Mathlib.Omega.{arith}
 use borrow.Author.Rules.{rules}
 use Rattle.runs.proofs.SharedBits.{agree_to, apart_from}
-use Rattle.runs.proofs.shared.Statement.{statement}
-use Rattle.runs.proofs.shared.Tie as tie
+use Rattle.runs.proofs.shared.Goals as goal
 
-returns : tie.Need-returns
-returns c =
-    let s = c.before in
+pub returns-then-bits-limit : goal.returns-then-bits-limit
+returns-then-bits-limit c =
+    let s = c in
     let a = s.args in
     record {
       below = omega arith;
@@ -16,15 +15,12 @@ returns c =
       largest = λ k low high. apart_from a.address a.other s.ranges.address.fits s.ranges.other.fits k low (omega arith);
     }
 
-returns-2 : tie.Need-returns-2
-returns-2 c =
-    let s = c.before in
+pub returns : goal.returns
+returns c =
+    let s = c in
     let a = s.args in
     record {
       below = omega arith;
       agree = agree_to a.address a.other s.ranges.address.fits s.ranges.other.fits _ (omega arith);
       largest = λ k low high. absurd (omega arith);
     }
-
-pub shared-spec : {M : Type 1} → statement M
-shared-spec = tie.close (tie.spec returns (λ c. search rules) returns-2)

@@ -1,0 +1,20 @@
+-- `segment_sound` meets its contract: each test that fails is one that a sound segment passes. Assumes nothing.
+use mathlib.Core.Path.{sym, ◌∙◌}
+use native.Mathlib.Omega.{arith}
+use Rattle.ground.proofs.Tests.{iff?, stops, same_test}
+use Rattle.damage.proofs.Soundness.{clean_run?, segment_sound?}
+use borrow.Author.Rules.{rules}
+use Rattle.damage.proofs.segment_sound.Goals as goal
+
+pub returns-then-owners-segment : goal.returns-then-owners-segment
+returns-then-owners-segment c = sym (stops (segment_sound? _ _ _) (λ h. omega (arith, h.lent)))
+
+pub returns-then-owners-segment-2 : goal.returns-then-owners-segment-2
+returns-then-owners-segment-2 c = sym (stops (segment_sound? _ _ _) (λ h. c.if-owners-segment-2.true (omega (arith, h.owned))))
+
+pub returns : goal.returns
+returns c =
+    c.clean_run.ensures
+    ∙ same_test (clean_run? _ _ _ _)
+    (iff? (segment_sound? _ _ _) (λ h i l. h.clean i (omega arith))
+    (λ k. record { lent = omega arith; owned = omega arith; clean = λ i l. k i (omega arith) }))

@@ -1,0 +1,94 @@
+-- The goals that the check leaves.
+use mathlib.Core.Path.{◌≡◌, sym, subst}
+use Prim.Native.Nat.{ℕ, ◌+◌, ◌-◌, ◌*◌, ◌≤◌, ◌<◌}
+use native.Mathlib.Omega.{arith}
+use lib.ListN.{length}
+use borrow.Author.Rules.{rules}
+use Rattle.ground.proofs.Tests.{passes, stops, if_so, if_not}
+use Rattle.prefix.specs.Geometry.{width, block_size}
+use Rattle.prefix.proofs.Spans.{aligned}
+use Rattle.cells.proofs.Lending.{few_firsts}
+use Rattle.rules.specs.inner.Blocks.{CursorAt}
+use Rattle.damage.proofs.Soundness.{CleanRun, clean_run?, sound_by?, sound_run?}
+use Rattle.damage.proofs.Turns.{Walked, start_within, clean_run_lem, sound_run_lem, sound_here, walked_on}
+use Rattle.std.proofs.Common.{ap, not}
+use Rattle.damage.proofs.walk.Goals as goal
+
+pub overflow_add-end : goal.overflow_add-end
+overflow_add-end c = omega (arith, c.requires.lent.all)
+
+pub loop-block-init : goal.loop-block-init
+loop-block-init c = (record { forward = omega arith; cursor = c.requires.cursor; sound = λ k l m. absurd (omega arith) }, search rules)
+
+pub block_start-start-requires : goal.block_start-start-requires
+block_start-start-requires c =
+    let s = c in
+    start_within s.requires.sized (omega (arith, s.well_formed)) c.loop-block.block (omega (arith, s.requires.lent.all))
+
+pub stretch-closed-requires : goal.stretch-closed-requires
+stretch-closed-requires c =
+    let s = c in
+    let l = c.loop-block in
+    record { listed = s.requires.listed; cursor_at = subst (λ (a : ℕ). CursorAt s.args.rules.now s.args.used a l.here) (sym c.block_start-start.ensures) l.invariant.0.cursor }
+
+pub clean_run-requires : goal.clean_run-requires
+clean_run-requires c = omega (arith, c.stretch-closed.ensures.within, c.requires.lent.all)
+
+pub returns-then-not-clean_run : goal.returns-then-not-clean_run
+returns-then-not-clean_run c =
+    let s = c in
+    let l = c.loop-block in
+    sym (stops (sound_run? _ _ _ _) (λ all.
+    if_not (clean_run? _ _ _ _) c.clean_run.ensures (ap not c.if-not-clean_run.true)
+    (clean_run_lem s.requires.sized s.requires.listed l.invariant.0 c.block_start-start.ensures c.stretch-closed.ensures (λ j m k. all j (omega arith) (omega arith)))))
+
+pub returns-then-stop-end : goal.returns-then-stop-end
+returns-then-stop-end c =
+    let clean : CleanRun width c.args.first.now c.loop-block.block c.stretch-closed.result =
+    if_so (clean_run? _ _ _ _) c.clean_run.ensures (ap not c.if-not-clean_run.false) in
+    let s = c in
+    sym (passes (sound_run? _ _ _ _) (λ k m j.
+    sound_run_lem s.requires.sized s.requires.listed c.loop-block.invariant.0 c.block_start-start.ensures c.stretch-closed.ensures clean k m (omega arith)))
+
+-- past the second, the block after it has a cell
+pub block_start-next-requires : goal.block_start-next-requires
+block_start-next-requires c =
+    let s = c in
+    start_within s.requires.sized (omega (arith, s.well_formed)) (c.loop-block.block + c.stretch-closed.result) (omega (arith, s.requires.lent.all, c.stretch-closed.ensures.within))
+
+pub pass-cursor-requires : goal.pass-cursor-requires
+pass-cursor-requires c =
+    let s = c in
+    let same : c.block_start-start.result + block_size * c.stretch-closed.result ≡ c.block_start-next.result = omega (arith, c.block_start-start.ensures, c.block_start-next.ensures) in record { listed = s.requires.listed; cursor_at = subst (λ (a : ℕ). CursorAt s.args.rules.now s.args.used a c.loop-block.here) same c.stretch-closed.ensures.cursor; block_size_value = (omega (arith, c.block_start-next.ensures, aligned s.requires.sized.territory), omega (arith, c.block_start-next.ensures, (let s = c in
+    start_within s.requires.sized (omega (arith, s.well_formed)) (c.loop-block.block + c.stretch-closed.result) (omega (arith, s.requires.lent.all, c.stretch-closed.ensures.within))))) }
+
+pub block_sound-requires : goal.block_sound-requires
+block_sound-requires c =
+    let s = c.requires in
+    let lent : c.loop-block.block + c.stretch-closed.result < length c.args.first.now = omega (arith, s.lent.all, c.stretch-closed.ensures.within) in
+    (s.sized.longs, omega (arith, few_firsts s.sized), lent)
+
+pub returns-then-not-block_sound : goal.returns-then-not-block_sound
+returns-then-not-block_sound c =
+    let s = c in
+    let l = c.loop-block in
+    let stop : ℕ = l.block + c.stretch-closed.result in
+    sym (stops (sound_run? _ _ _ _) (λ all.
+    if_not (sound_by? _ _ _) c.block_sound.ensures (ap not c.if-not-block_sound.true)
+    (sound_here s.requires.sized s.requires.listed l.invariant.0 c.block_start-start.ensures c.stretch-closed.ensures c.block_start-next.ensures c.pass-cursor.ensures
+    (all stop (omega (arith, l.invariant.0.forward)) (omega (arith, c.stretch-closed.ensures.within))))))
+
+pub loop-block-preserved : goal.loop-block-preserved
+loop-block-preserved c =
+    let clean : CleanRun width c.args.first.now c.loop-block.block c.stretch-closed.result =
+    if_so (clean_run? _ _ _ _) c.clean_run.ensures (ap not c.if-not-clean_run.false) in
+    let s = c in
+    let l = c.loop-block in (
+      walked_on s.requires.sized s.requires.listed l.invariant.0 c.block_start-start.ensures c.stretch-closed.ensures c.block_start-next.ensures c.pass-cursor.ensures
+          (omega arith) clean
+          (if_so (sound_by? _ _ _) c.block_sound.ensures (ap not c.if-not-block_sound.false)),
+      search rules,
+    )
+
+pub returns : goal.returns
+returns c = sym (passes (sound_run? _ _ _ _) (λ k m j. c.loop-block.invariant.0.sound k m (omega arith)))

@@ -1,0 +1,36 @@
+-- `enter` meets its contract: one law for each way out. Assumes nothing.
+use mathlib.Core.Path.{◌≡◌}
+use native.Mathlib.Omega.{arith}
+use Rattle.octets.specs.Booking.{refusal_of}
+use Rattle.octets.proofs.Entering.{turned_away, too_much, entered}
+use borrow.Author.Rules.{rules}
+use Rattle.octets.proofs.enter.Goals as goal
+
+pub returns-then-refused-ne0 : goal.returns-then-refused-ne0
+returns-then-refused-ne0 c =
+    let s = c.args in
+    turned_away s.answer s.amount s.octets.now c.refusal_of-refused.ensures (λ z. omega (arith, c.if-refused-ne0.true))
+
+pub returns-then-word-gt-MOST : goal.returns-then-word-gt-MOST
+returns-then-word-gt-MOST c =
+    let k = c in
+    let s = k.args in
+    let passed : refusal_of s.answer.code ≡ 0 = omega (arith, k.refusal_of-refused.ensures, c.if-refused-ne0.false) in
+    too_much s.answer s.amount s.octets.now passed (omega (arith, c.if-word-gt-MOST.true))
+
+pub returns-then-word-amount : goal.returns-then-word-amount
+returns-then-word-amount c =
+    let k = c in
+    let s = k.args in
+    let passed : refusal_of s.answer.code ≡ 0 = omega (arith, k.refusal_of-refused.ensures, c.if-refused-ne0.false) in
+    too_much s.answer s.amount s.octets.now passed (omega (arith, c.if-word-amount.true))
+
+pub overflow_add-octets : goal.overflow_add-octets
+overflow_add-octets c = omega arith
+
+pub returns : goal.returns
+returns c =
+    let k = c in
+    let s = k.args in
+    let passed : refusal_of s.answer.code ≡ 0 = omega (arith, k.refusal_of-refused.ensures, c.if-refused-ne0.false) in
+    entered s.answer s.amount s.octets.now passed _ (omega arith) (omega (arith, c.if-word-gt-MOST.false, c.if-word-amount.false))

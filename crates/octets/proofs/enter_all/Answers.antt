@@ -1,0 +1,40 @@
+-- The goals that the check leaves.
+use mathlib.Core.Path.{◌≡◌, ap, ◌∙◌}
+use Prim.Native.Nat.{◌-◌, ◌<◌}
+use native.Mathlib.Omega.{arith}
+use lib.ListN.{length, get_or}
+use borrow.Author.Rules.{rules}
+use Rattle.lookup.specs.declared.look.Answer.{Answer}
+use Rattle.octets.specs.Words.{word_count}
+use Rattle.octets.specs.Booking.{enter}
+use Rattle.octets.specs.inner.Numbers.{enter_number}
+use Rattle.octets.proofs.Entering.{enter_long}
+use Rattle.octets.proofs.Going.{Going, going_none, going_at, going_more, going_all}
+use Rattle.octets.proofs.enter_all.Goals as goal
+
+pub loop-i-init : goal.loop-i-init
+loop-i-init c = (omega arith, going_none)
+
+pub enter-requires : goal.enter-requires
+enter-requires c =
+    let turn = c in
+    let pre = turn.requires in
+    let hop = ap (λ (r : Answer). r.hop) c.unpack.ensures in
+    let here : turn.loop-i.i < length turn.args.codes.now = omega (arith, turn.loop-i.invariant.1.long) in
+    (turn.loop-i.invariant.0, omega (arith, hop, going_at turn.loop-i.invariant.1 here, pre.hops_fit turn.loop-i.i here))
+
+pub loop-i-preserved : goal.loop-i-preserved
+loop-i-preserved c =
+    let entering = c in
+    let unpacking = entering in
+    let turn = unpacking in
+    let said =
+    entering.enter.ensures
+    ∙ ap (λ (r : Answer). enter r (get_or turn.args.amounts.now turn.loop-i.i 0) turn.loop-i.octets)
+    unpacking.unpack.ensures in (
+      enter_long _ _ _ said ∙ turn.loop-i.invariant.0,
+      going_more turn.loop-i.invariant.1 _ said (omega (arith, turn.loop-i.invariant.1.long)) (omega (arith, turn.loop-i.invariant.1.long)),
+    )
+
+pub returns : goal.returns
+returns c = going_all c.loop-i.invariant.1 (omega (arith, c.loop-i-test.false))

@@ -1,0 +1,25 @@
+-- `runs::next` meets its contract: the words up to the address start at it or before, and the first after them is the next to start.
+-- Assumes nothing.
+use mathlib.Core.Path.{◌≡◌}
+use native.Mathlib.Omega.{arith}
+use borrow.Author.Rules.{rules}
+use Rattle.rules.proofs.Indices.{listed_within}
+use Rattle.runs.proofs.Places.{next_none, next_some}
+use Rattle.runs.proofs.next.Goals as goal
+
+pub returns-then-first-used : goal.returns-then-first-used
+returns-then-first-used c =
+    let s = c in
+    let none : s.args.first ≡ s.args.used = omega (arith, c.if-first-used.true) in
+    next_none s.args.address s.requires.listed s.requires.count_up_to none s.ranges.address.fits
+
+pub offset_bounds-rules-first : goal.offset_bounds-rules-first
+offset_bounds-rules-first c = omega (arith, listed_within c.requires.listed, c.requires.count_up_to.within)
+
+pub bounds-rules-first : goal.bounds-rules-first
+bounds-rules-first c = omega (arith, listed_within c.requires.listed, c.requires.count_up_to.within)
+
+pub returns : goal.returns
+returns c =
+    let s = c in
+    next_some s.args.address s.requires.listed s.requires.count_up_to (omega arith) (omega (arith, c.address.type_inv, c.address.ensures)) (omega (arith, c.address.ensures))
