@@ -12,33 +12,33 @@ put_u32-requires c = simp length-set (omega arith)
 
 pub put_u32-requires-2 : goal.put_u32-requires-2
 put_u32-requires-2 c =
-    let serial-put : 15 ≤ length c.put_u32.new.0 =
-    omega (arith, simp length-set at c.put_u32.auto.0) in
+    let serial-put : 15 ≤ length c.put_u32.new.room =
+    omega (arith, simp length-set at c.put_u32.auto.room) in
  omega (arith, serial-put)
 
 pub bounds-room-12 : goal.bounds-room-12
 bounds-room-12 c =
-    let serial-put : 15 ≤ length c.put_u32.new.0 =
-    omega (arith, simp length-set at c.put_u32.auto.0) in
-    let address-put : 15 ≤ length c.put_u32-2.new.0 =
-    omega (arith, serial-put, c.put_u32-2.auto.0) in
+    let serial-put : 15 ≤ length c.put_u32.new.room =
+    omega (arith, simp length-set at c.put_u32.auto.room) in
+    let address-put : 15 ≤ length c.put_u32-2.new.room =
+    omega (arith, serial-put, c.put_u32-2.auto.room) in
  omega (arith, address-put)
 
 pub put_u16-requires-2 : goal.put_u16-requires-2
 put_u16-requires-2 c =
-    let serial-put : 15 ≤ length c.put_u32.new.0 =
-    omega (arith, simp length-set at c.put_u32.auto.0) in
-    let address-put : 15 ≤ length c.put_u32-2.new.0 =
-    omega (arith, serial-put, c.put_u32-2.auto.0) in
+    let serial-put : 15 ≤ length c.put_u32.new.room =
+    omega (arith, simp length-set at c.put_u32.auto.room) in
+    let address-put : 15 ≤ length c.put_u32-2.new.room =
+    omega (arith, serial-put, c.put_u32-2.auto.room) in
  simp length-set (omega (arith, address-put))
 
 pub returns : goal.returns
 returns c =
     let s = c in
     let u = s.args.update in
-    let started = set (set c.put_u16.new.0 2 1) 3 u.kind in
-    let serial = by_bytes c.put_u32.new.0 started 4 u.serial _ _ _ _ c.put_u32.ensures
+    let started = set (set c.put_u16.new.room 2 1) 3 u.kind in
+    let serial = by_bytes c.put_u32.new.room started 4 u.serial _ _ _ _ c.put_u32.ensures
     (omega arith) (omega arith) (omega arith) (omega arith) in
-    let address = by_bytes c.put_u32-2.new.0 c.put_u32.new.0 8 u.address _ _ _ _ c.put_u32-2.ensures
+    let address = by_bytes c.put_u32-2.new.room c.put_u32.new.room 8 u.address _ _ _ _ c.put_u32-2.ensures
     (omega arith) (omega arith) (omega arith) (omega arith) in
     stored u s.args.room.now _ _ _ _ s.requires c.put_u16.ensures serial address c.put_u16-2.ensures

@@ -25,4 +25,4 @@ returns c =
     let h = p in
     let k = h in
     let s = k.args in
-    fills s.room.now s.update (omega (arith, k.if-room-lt-SIZE.false)) (sym (ap not k.is_known.ensures) ∙ (ap not h.if-not-is_known.false)) p.put.new.0 (sym h.has_stray_hop.ensures ∙ h.if-has_stray_hop.false) p.put.ensures
+    fills s.room.now s.update (omega (arith, k.if-room-lt-SIZE.false)) (sym (ap not k.is_known.ensures) ∙ (ap not h.if-not-is_known.false)) p.put.new.room (sym h.has_stray_hop.ensures ∙ h.if-has_stray_hop.false) p.put.ensures

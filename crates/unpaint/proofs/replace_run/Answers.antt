@@ -1,0 +1,22 @@
+-- The goals that the check leaves.
+use Prim.Native.Nat.{◌-◌}
+use native.Mathlib.Omega.{arith}
+use borrow.Author.Rules.{rules}
+use Rattle.ground.proofs.Lists.{differs_small}
+use Rattle.unpaint.specs.inner.Unpaint.{replaced}
+use Rattle.tables.proofs.Ranges.{Reached, start, turn, finish}
+use Rattle.unpaint.proofs.replace_run.Goals as goal
+
+pub loop-i-init : goal.loop-i-init
+loop-i-init c = start c.requires
+
+pub overflow_add-changed : goal.overflow_add-changed
+overflow_add-changed c = omega (arith, differs_small _ _ _ c.differ-changed.ensures)
+
+pub loop-i-preserved : goal.loop-i-preserved
+loop-i-preserved c =
+    let at-loop = c in
+    turn at-loop.requires c.loop-i-test.true c.replaced-next.ensures c.differ-changed.ensures at-loop.loop-i.invariant
+
+pub returns : goal.returns
+returns c = let inv = c.loop-i.invariant in record { changed = finish c.loop-i-test.false inv; few = omega (arith, inv.few) }

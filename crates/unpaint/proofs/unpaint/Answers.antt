@@ -1,0 +1,103 @@
+-- `unpaint` meets its contract. A prefix of length up to 24 is a run of blocks; a longer one is a run of cells in its block's
+-- segment. The run kept at first is that of the prefix's own address. Assumes nothing.
+use mathlib.Core.Path.{◌≡◌, ap}
+use Prim.Native.Nat.{◌+◌}
+use native.Mathlib.Omega.{arith}
+use borrow.Author.Rules.{rules}
+use Rattle.prefix.specs.declared.geometry.Blocks.{Blocks}
+use Rattle.prefix.specs.Geometry.{block_of}
+use Rattle.prefix.proofs.Prefixes.{ends_within}
+use Rattle.prefix.proofs.Spans.{starts}
+use Rattle.cells.specs.Memory.{tables_of}
+use Rattle.cells.proofs.Lending.{few_firsts}
+use Rattle.rules.specs.Rules.{routes}
+use Rattle.runs.proofs.Covered.{kept_later}
+use Rattle.tables.specs.Cellwise.{unpaint_cell}
+use Rattle.tables.specs.inner.Ready.{Closable}
+use Rattle.tables.specs.inner.Ranges.{BlocksReady}
+use Rattle.tables.proofs.Repaints.{block_lent, blocks_ready, blocks-repainted, closable, points, owns, run_within, run_counted, run_repainted}
+use Rattle.unpaint.proofs.unpaint.Goals as goal
+
+pub overflow_add-to : goal.overflow_add-to
+overflow_add-to c =
+    let ready : let a = c.args in
+    BlocksReady a.territory a.blocks.from (a.blocks.from + a.blocks.count) (tables_of a.first.now a.long.now a.owners.now) =
+    let s = c in blocks_ready s.requires.repaintable.ready c.if-length-le-WIDTH.true s.requires.blocks_value in
+    omega (arith, ready.within, few_firsts ready.sized)
+
+pub unpaint_blocks-tally-requires : goal.unpaint_blocks-tally-requires
+unpaint_blocks-tally-requires c =
+    let from : c.args.blocks.from ≡ block_of c.args.territory c.args.prefix.address =
+    ap (λ (x : Blocks). x.from) c.requires.blocks_value in
+    let ready : let a = c.args in
+    BlocksReady a.territory a.blocks.from (a.blocks.from + a.blocks.count) (tables_of a.first.now a.long.now a.owners.now) =
+    let s = c in blocks_ready s.requires.repaintable.ready c.if-length-le-WIDTH.true s.requires.blocks_value in
+    let k = c in
+    let s = k in
+    let pre = s.requires.repaintable.ready in
+    let start = starts pre.sized.territory pre.formed pre.inside k.if-length-le-WIDTH.true in
+    record { blocks_ready = ready; asking = record { listed = s.requires.listed; kept = kept_later (omega (arith, from)) k.longest-run.ensures.kept } }
+
+pub returns-then-length-le-WIDTH : goal.returns-then-length-le-WIDTH
+returns-then-length-le-WIDTH c =
+    let at-unpaint = c in
+    let k = at-unpaint in
+    let s = k in
+    blocks-repainted s.requires.repaintable.ready k.if-length-le-WIDTH.true s.requires.blocks_value _ at-unpaint.unpaint_blocks-tally.ensures.blocks
+
+pub offset_bounds-first-block : goal.offset_bounds-first-block
+offset_bounds-first-block c =
+    let from : c.args.blocks.from ≡ block_of c.args.territory c.args.prefix.address =
+    ap (λ (x : Blocks). x.from) c.requires.blocks_value in
+    let s = c in omega (arith, block_lent s.requires.repaintable.ready from, few_firsts s.requires.repaintable.ready.sized)
+
+pub bounds-first-block : goal.bounds-first-block
+bounds-first-block c =
+    let from : c.args.blocks.from ≡ block_of c.args.territory c.args.prefix.address =
+    ap (λ (x : Blocks). x.from) c.requires.blocks_value in
+    let s = c in omega (arith, block_lent s.requires.repaintable.ready from)
+
+pub segment-requires : goal.segment-requires
+segment-requires c =
+    let from : c.args.blocks.from ≡ block_of c.args.territory c.args.prefix.address =
+    ap (λ (x : Blocks). x.from) c.requires.blocks_value in
+    let open_block : let a = c.args in Closable a.territory a.prefix (tables_of a.first.now a.long.now a.owners.now) =
+    closable c.requires.repaintable c.if-length-le-WIDTH.false in
+    omega (arith, points open_block from)
+
+pub prefix_cells-range-requires : goal.prefix_cells-range-requires
+prefix_cells-range-requires c =
+    let from : c.args.blocks.from ≡ block_of c.args.territory c.args.prefix.address =
+    ap (λ (x : Blocks). x.from) c.requires.blocks_value in
+    let open_block : let a = c.args in Closable a.territory a.prefix (tables_of a.first.now a.long.now a.owners.now) =
+    closable c.requires.repaintable c.if-length-le-WIDTH.false in
+    let k = c in
+    let lent = (owns open_block from).lent in
+    record { segment_lt_pointer_bit = omega (arith, c.segment.ensures, open_block.ready.sized.few); width_lt_length = (omega (arith, k.if-length-le-WIDTH.false), open_block.ready.formed.short) }
+
+pub unpaint_run-tally-requires : goal.unpaint_run-tally-requires
+unpaint_run-tally-requires c =
+    let from : c.args.blocks.from ≡ block_of c.args.territory c.args.prefix.address =
+    ap (λ (x : Blocks). x.from) c.requires.blocks_value in
+    let open_block : let a = c.args in Closable a.territory a.prefix (tables_of a.first.now a.long.now a.owners.now) =
+    closable c.requires.repaintable c.if-length-le-WIDTH.false in
+    let at-segment = c in
+    let k = at-segment in
+    let s = k in
+    let run = c.prefix_cells-range.ensures in
+    let small = ends_within s.requires.repaintable.ready.formed (omega arith) in record { within = run_within open_block from at-segment.segment.ensures run; from_bound = omega (arith, run.high, small); asking = record { listed = s.requires.listed; kept = k.longest-run.ensures.kept } }
+
+pub returns : goal.returns
+returns c =
+    let from : c.args.blocks.from ≡ block_of c.args.territory c.args.prefix.address =
+    ap (λ (x : Blocks). x.from) c.requires.blocks_value in
+    let open_block : let a = c.args in Closable a.territory a.prefix (tables_of a.first.now a.long.now a.owners.now) =
+    closable c.requires.repaintable c.if-length-le-WIDTH.false in
+    let at-run = c in
+    let at-segment = at-run in
+    let k = at-segment in
+    let s = k in
+    let run = at-run.prefix_cells-range.ensures in
+    let f = unpaint_cell s.args.prefix.length (routes s.args.rules.now) in
+    run_repainted open_block from at-segment.segment.ensures run f
+    (run_counted open_block from at-segment.segment.ensures run f at-run.unpaint_run-tally.ensures.changed)

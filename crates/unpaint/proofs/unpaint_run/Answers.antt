@@ -1,0 +1,49 @@
+-- The goals that the check leaves.
+use Prim.Native.Nat.{ℕ, ◌+◌, ◌-◌}
+use native.Mathlib.Omega.{arith}
+use Rattle.rules.specs.Rules.{routes}
+use Rattle.runs.specs.inner.Kept.{Kept}
+use Rattle.runs.proofs.Covered.{kept_later}
+use Rattle.tables.specs.Cellwise.{unpaint_cell}
+use Rattle.tables.proofs.Ranges.{Reached, start, finish}
+use Rattle.unpaint.proofs.Unpainting.{skipped_run, skipped_from, run_taken, part, part_none}
+use borrow.Author.Rules.{rules}
+use Rattle.unpaint.proofs.unpaint_run.Goals as goal
+
+pub loop-i-init : goal.loop-i-init
+loop-i-init c =
+    let s = c in
+    let passed = c.skip-i.ensures in (
+      part_none (start s.requires.within) passed.low passed.high
+          (skipped_run passed (routes s.args.rules.now) (λ (k : ℕ). s.args.start + (k - s.args.from))),
+      kept_later (omega arith) s.requires.asking.kept,
+    )
+
+pub run_at-kept-requires : goal.run_at-kept-requires
+run_at-kept-requires c = record { listed = c.requires.asking.listed; kept = c.loop-i.invariant.1 }
+
+pub overflow_add-changed : goal.overflow_add-changed
+overflow_add-changed c =
+    let at-loop = c in
+    let all = at-loop.requires.within in
+    omega (arith, at-loop.loop-i.invariant.0.few, c.replace_run-changed.ensures.few, all.few, c.reach.ensures.few)
+
+pub loop-i-preserved : goal.loop-i-preserved
+loop-i-preserved c =
+    let at-loop = c in
+    let s = at-loop in
+    let found = c.run_at-kept.ensures in
+    let reached = c.reach.ensures in
+    let replaced = c.replace_run-changed.ensures in
+    let passed = skipped_from {i = at-loop.loop-i.i + c.reach.result} c.skip-i-in-loop-i.ensures (omega arith) in
+    let address : ℕ → ℕ = λ k. s.args.start + (k - s.args.from) in (
+      part_none
+          (part at-loop.loop-i.invariant.0 (omega arith) (omega (arith, reached.few))
+          (run_taken s.args.length address found.kept (λ k low high. (omega arith, omega (arith, reached.fit))) replaced.changed (omega arith))
+          replaced.few)
+          passed.low passed.high (skipped_run passed (routes s.args.rules.now) address),
+      kept_later (omega (arith, passed.low, reached.some)) found.kept,
+    )
+
+pub returns : goal.returns
+returns c = let inv = c.loop-i.invariant in record { changed = finish c.loop-i-test.false inv.0; kept = kept_later (omega arith) inv.1 }

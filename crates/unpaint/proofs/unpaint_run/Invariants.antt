@@ -1,0 +1,20 @@
+-- `unpaint_run` meets its contract. The loop's invariant: the cells before i are repainted, `changed` of them differ, and the run
+-- kept holds at the address of i. The measure is what is left of the run. Assumes nothing.
+use Prim.Native.Nat.{ℕ, ◌+◌, ◌-◌}
+use native.Mathlib.Omega.{arith}
+use Rattle.rules.specs.Rules.{routes}
+use Rattle.runs.specs.inner.Kept.{Kept}
+use Rattle.runs.proofs.Covered.{kept_later}
+use Rattle.tables.specs.Cellwise.{unpaint_cell}
+use Rattle.tables.proofs.Ranges.{Reached, start, finish}
+use Rattle.unpaint.proofs.Unpainting.{skipped_run, skipped_from, run_taken, part, part_none}
+use borrow.Author.Rules.{rules}
+use Rattle.unpaint.proofs.unpaint_run.Given as goal
+
+abbrev pub invariant-loop-i : goal.invariant-loop-i
+invariant-loop-i l =
+    Reached (λ k. unpaint_cell l.length (routes l.rules) (l.start + (k - l.from))) l.from l.to l.initial.cells l.cells l.changed l.i
+    × Kept l.rules l.used (l.start + (l.i - l.from)) l.kept
+
+abbrev pub decreases-loop-i : goal.decreases-loop-i
+decreases-loop-i l = l.to - l.i

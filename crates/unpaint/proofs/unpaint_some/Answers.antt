@@ -1,0 +1,104 @@
+-- `unpaint_some` meets its contract. Where the first block's cell is a pointer, its segment is repainted and nothing else is; where
+-- it is not, a piece of first cells takes the cell of the run. Assumes nothing.
+use mathlib.Core.Path.{sym, ◌∙◌}
+use Prim.Native.Nat.{◌+◌, ◌^◌, ◌≤◌, ◌<◌}
+use native.Mathlib.Nat.{le_refl}
+use native.Mathlib.Omega.{arith}
+use lib.ListN.{get_or}
+use borrow.Author.Tests.{leb-true, leb-false}
+use Rattle.prefix.specs.Geometry.{block_start}
+use Rattle.cells.specs.Cells.{pointer_bit}
+use Rattle.cells.specs.Memory.{tables_of}
+use Rattle.rules.specs.Rules.{routes}
+use Rattle.runs.proofs.Covered.{kept_later}
+use Rattle.tables.specs.Cellwise.{unpaint_cell}
+use Rattle.tables.specs.inner.Ready.{segment_at, Owns}
+use Rattle.unpaint.specs.inner.Unpaint.{Asking}
+use Rattle.tables.proofs.Blocks.{block_points, segment_within, run_addressed, block_ends}
+use Rattle.unpaint.proofs.Unpainting.{run_taken, blocks_closed, closed_one}
+use borrow.Author.Rules.{rules}
+use Rattle.unpaint.proofs.unpaint_some.Goals as goal
+
+pub block_start-start-requires : goal.block_start-start-requires
+block_start-start-requires c =
+    let end : block_start c.args.territory (c.args.block + 1) ≤ 2 ^ 32 =
+    block_ends c.requires.blocks_ready.sized (omega arith) (omega (arith, c.requires.blocks_ready.within)) in
+    omega (arith, end)
+
+pub segment_cells-range-requires : goal.segment_cells-range-requires
+segment_cells-range-requires c =
+    let owns : let a = c.args in let T = tables_of a.first.now a.long.now a.owners.now in Owns T a.block (segment_at T a.block) =
+    let s = c in
+    s.requires.blocks_ready.owned s.args.block (le_refl _) (omega arith) (leb-true _ _ (sym c.is_pointer.ensures ∙ c.if-is_pointer.true)) in
+    omega (arith, owns.points)
+
+pub unpaint_run-tally-requires : goal.unpaint_run-tally-requires
+unpaint_run-tally-requires c =
+    let end : block_start c.args.territory (c.args.block + 1) ≤ 2 ^ 32 =
+    block_ends c.requires.blocks_ready.sized (omega arith) (omega (arith, c.requires.blocks_ready.within)) in
+    let asking : let a = c.args in Asking a.rules.now a.used c.block_start-start.result a.run =
+    let pre = c.requires.asking in record { listed = pre.listed; kept = kept_later (omega (arith, c.block_start-start.ensures)) pre.kept } in
+    let owns : let a = c.args in let T = tables_of a.first.now a.long.now a.owners.now in Owns T a.block (segment_at T a.block) =
+    let s = c in
+    s.requires.blocks_ready.owned s.args.block (le_refl _) (omega arith) (leb-true _ _ (sym c.is_pointer.ensures ∙ c.if-is_pointer.true)) in
+    let k = c in
+    let s = k in
+    let run = c.segment_cells-range.ensures in record { within = segment_within s.requires.blocks_ready.sized owns (omega (arith, run.low)) (omega (arith, run.high)) (omega (arith, run.low, run.high)); from_bound = omega (arith, run.high, k.block_start-start.ensures, end); asking = asking }
+
+pub returns-then-is_pointer : goal.returns-then-is_pointer
+returns-then-is_pointer c =
+    let owns : let a = c.args in let T = tables_of a.first.now a.long.now a.owners.now in Owns T a.block (segment_at T a.block) =
+    let s = c in
+    s.requires.blocks_ready.owned s.args.block (le_refl _) (omega arith) (leb-true _ _ (sym c.is_pointer.ensures ∙ c.if-is_pointer.true)) in
+    let at-run = c in
+    let at_cells = at-run in
+    let k = at_cells in
+    let a = k.args in
+    let cells = at_cells.segment_cells-range.ensures in
+    let run = run_addressed (unpaint_cell a.length (routes a.rules.now)) a.territory owns 0 (omega (arith, cells.low))
+    (omega (arith, cells.low, cells.high)) (omega (arith, k.block_start-start.ensures)) at-run.unpaint_run-tally.ensures.changed in
+    record {
+      some = omega arith;
+      within = omega (arith, k.requires.block_lt_to);
+      done = record {
+        blocks = block_points _ _ owns (omega (arith, cells.low)) (omega (arith, cells.high)) run;
+        kept = kept_later (omega (arith, cells.high, k.block_start-start.ensures)) at-run.unpaint_run-tally.ensures.kept;
+      };
+    }
+
+pub run_at-kept-requires : goal.run_at-kept-requires
+run_at-kept-requires c =
+    let asking : let a = c.args in Asking a.rules.now a.used c.block_start-start.result a.run =
+    let pre = c.requires.asking in record { listed = pre.listed; kept = kept_later (omega (arith, c.block_start-start.ensures)) pre.kept } in
+    asking
+
+pub piece-stop-requires : goal.piece-stop-requires
+piece-stop-requires c =
+    let direct : let a = c.args in get_or a.first.now a.block 0 < pointer_bit =
+    leb-false _ _ (sym c.is_pointer.ensures ∙ c.if-is_pointer.false) in
+    let at-else = c in
+    let s = at-else in record { inside = record { ordered = omega arith; inside = s.requires.blocks_ready.within }; block_lt_to = (omega arith, omega (arith, c.run_at-kept.ensures.past)); closed = closed_one s.args.block s.args.first.now direct }
+
+pub replace_run-requires : goal.replace_run-requires
+replace_run-requires c =
+    let piece = c.piece-stop.ensures in
+    let s = c in
+    record { ordered = omega (arith, piece.some); inside = omega (arith, piece.within, s.requires.blocks_ready.within); few = omega (arith, piece.few) }
+
+pub returns : goal.returns
+returns c =
+    let begin = c in
+    let a = begin.args in
+    let start = begin.block_start-start.ensures in
+    let found = c.run_at-kept.ensures in
+    let piece = c.piece-stop.ensures in
+    record {
+      some = piece.some;
+      within = piece.within;
+      done = record {
+        blocks = blocks_closed piece.closed
+            (run_taken a.length (block_start a.territory) found.kept (λ k low high. (omega (arith, start), omega (arith, start, piece.fit)))
+            c.replace_run.ensures.changed (omega arith));
+        kept = kept_later (omega (arith, start, piece.some)) found.kept;
+      };
+    }
