@@ -1,0 +1,18 @@
+-- `announce` meets its contract: the number that was checked is the call's, and what it hands on can be put in. Assumes nothing.
+use Rattle.cells.specs.Memory.{Lent, lent_of}
+use Rattle.rules.specs.Words.{route_by}
+use Rattle.refusals.specs.Codes.{announces}
+use Rattle.updates.proofs.Putting.{announce_puttable}
+use Rattle.updates.proofs.Outcomes.{steps}
+use borrow.Author.Rules.{rules}
+use Rattle.updates.proofs.announce.Goals as goal
+
+pub put_checked-requires : goal.put_checked-requires
+put_checked-requires c = announce_puttable c.announce_checked-checked.ensures
+
+pub returns : goal.returns
+returns c =
+    let done = c in
+    let k = done in
+    let s = k in
+    steps s.args.territory (announces (route_by s.args.prefix s.args.hop)) (lent_of s.args.first.now s.args.long.now s.args.owners.now s.args.rules.now) k.announce_checked-checked.ensures.number done.put_checked.ensures

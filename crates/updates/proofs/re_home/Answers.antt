@@ -1,0 +1,18 @@
+-- `re_home` meets its contract: the number that was checked is the call's, and what it hands on can be put in. Assumes nothing.
+use Rattle.cells.specs.Memory.{Lent, lent_of}
+use Rattle.rules.specs.Words.{route_by}
+use Rattle.refusals.specs.Codes.{re_homes}
+use Rattle.updates.proofs.Putting.{re_home_puttable}
+use Rattle.updates.proofs.Outcomes.{steps}
+use borrow.Author.Rules.{rules}
+use Rattle.updates.proofs.re_home.Goals as goal
+
+pub put_checked-requires : goal.put_checked-requires
+put_checked-requires c = re_home_puttable c.re_home_checked-checked.ensures
+
+pub returns : goal.returns
+returns c =
+    let done = c in
+    let k = done in
+    let s = k in
+    steps s.args.territory (re_homes (route_by s.args.prefix s.args.hop)) (lent_of s.args.first.now s.args.long.now s.args.owners.now s.args.rules.now) k.re_home_checked-checked.ensures.number done.put_checked.ensures

@@ -1,0 +1,63 @@
+-- `take::take_checked` meets its contract: a refusal writes nothing; and once the prefix is out of the rules, the routes that they stand for
+-- are those that are left. Assumes nothing.
+use mathlib.Core.Path.{◌≡◌, ap, ◌∙◌}
+use mathlib.Core.List.{List}
+use native.Mathlib.Omega.{arith}
+use Rattle.prefix.specs.Routes.{Route, takes}
+use Rattle.cells.specs.Memory.{Lent, lent_of}
+use Rattle.tables.specs.Changes.{left, leaves}
+use Rattle.updates.specs.Effects.{effect, retabled, unpainted}
+use Rattle.updates.specs.inner.Steps.{Takable}
+use Rattle.updates.proofs.Taking.{left-count, left_listed, left-routes}
+use Rattle.updates.proofs.Outcomes.{refuses, accepts}
+use borrow.Author.Rules.{rules}
+use Rattle.updates.proofs.take.take_checked.Goals as goal
+
+pub returns-then-checked-ne0 : goal.returns-then-checked-ne0
+returns-then-checked-ne0 c =
+    let s = c in
+    let refused : ¬ (s.args.checked.code ≡ 0) = omega (arith, c.if-checked-ne0.true) in
+    refuses (lent_of s.args.first.now s.args.long.now s.args.owners.now s.args.rules.now) (effect s.args.territory (takes s.args.prefix) (lent_of s.args.first.now s.args.long.now s.args.owners.now s.args.rules.now)) refused
+
+pub take_out-requires : goal.take_out-requires
+take_out-requires c =
+    let zero : c.args.checked.code ≡ 0 =
+    omega (arith, c.if-checked-ne0.false) in
+    let takable : let s = c in Takable s.args.territory s.args.prefix s.args.checked (lent_of s.args.first.now s.args.long.now s.args.owners.now s.args.rules.now) =
+    c.requires zero in
+    let A = takable in record { listed = A.listed; well_formed = A.repaintable.ready.formed; place_is = A.place; found_value = A.lives }
+
+pub overflow_sub-checked : goal.overflow_sub-checked
+overflow_sub-checked c =
+    let zero : c.args.checked.code ≡ 0 =
+    omega (arith, c.if-checked-ne0.false) in
+    let takable : let s = c in Takable s.args.territory s.args.prefix s.args.checked (lent_of s.args.first.now s.args.long.now s.args.owners.now s.args.rules.now) =
+    c.requires zero in
+    omega (arith, left-count takable)
+
+pub unpaint_or_close-cells-requires : goal.unpaint_or_close-cells-requires
+unpaint_or_close-cells-requires c =
+    let zero : c.args.checked.code ≡ 0 =
+    omega (arith, c.if-checked-ne0.false) in
+    let takable : let s = c in Takable s.args.territory s.args.prefix s.args.checked (lent_of s.args.first.now s.args.long.now s.args.owners.now s.args.rules.now) =
+    c.requires zero in
+    let out = c in
+    let A = takable in
+    record { repaintable = A.repaintable; listed = left_listed A out.take_out.ensures (omega (arith, left-count A)); blocks_value = A.touches }
+
+pub returns : goal.returns
+unfolding retabled
+returns c =
+    let zero : c.args.checked.code ≡ 0 =
+    omega (arith, c.if-checked-ne0.false) in
+    let takable : let s = c in Takable s.args.territory s.args.prefix s.args.checked (lent_of s.args.first.now s.args.long.now s.args.owners.now s.args.rules.now) =
+    c.requires zero in
+    let done = c in
+    let out = done in
+    let at-else = out in
+    let s = at-else in
+    let t = s.args.territory in
+    let p = s.args.prefix in
+    accepts t (takes p) (lent_of s.args.first.now s.args.long.now s.args.owners.now s.args.rules.now) zero
+    (done.unpaint_or_close-cells.ensures ∙ ap (λ (rs : List Route). leaves (unpainted t p rs) (lent_of s.args.first.now s.args.long.now s.args.owners.now s.args.rules.now).tables) (left-routes takable out.take_out.ensures))
+    out.take_out.ensures

@@ -1,0 +1,72 @@
+-- `take::unpaint_or_close` meets its contract: where the block closes, what is repainted before does not show, and else the cells are
+-- repainted. Assumes nothing.
+use mathlib.Core.Path.{◌≡◌, sym, ap, ◌∙◌}
+use native.Mathlib.Omega.{arith}
+use Rattle.prefix.specs.declared.geometry.Blocks.{Blocks}
+use Rattle.prefix.specs.Geometry.{block_of}
+use Rattle.prefix.proofs.Prefixes.{in_range_lem}
+use Rattle.prefix.proofs.Spans.{aligned}
+use Rattle.cells.specs.Memory.{Tables, tables_of}
+use Rattle.rules.specs.Rules.{routes}
+use Rattle.tables.specs.Changes.{closes}
+use Rattle.updates.proofs.Taking.{closes_here, closable, unpainted_closed, unpainted_open}
+use borrow.Author.Rules.{rules}
+use Rattle.updates.proofs.take.unpaint_or_close.Goals as goal
+
+pub block_start-start-requires : goal.block_start-start-requires
+block_start-start-requires c =
+    let own_block : c.args.blocks.from ≡ block_of c.args.territory c.args.prefix.address =
+    ap (λ (x : Blocks). x.from) c.requires.blocks_value in
+    let s = c in
+    let t = s.requires.repaintable.ready.sized.territory in
+    omega (arith, own_block, (in_range_lem t.formed s.requires.repaintable.ready.inside.inside).0, s.well_formed)
+
+pub closes_block-requires : goal.closes_block-requires
+closes_block-requires c =
+    let s = c in
+    record { listed = s.requires.listed; block_size_value = omega (arith, c.block_start-start.ensures, aligned s.requires.repaintable.ready.sized.territory) }
+
+pub close-requires : goal.close-requires
+close-requires c =
+    let own_block : c.args.blocks.from ≡ block_of c.args.territory c.args.prefix.address =
+    ap (λ (x : Blocks). x.from) c.requires.blocks_value in
+    let closing : let s = c in
+    c.closes_block.result ≡ closes s.args.territory s.args.prefix (routes s.args.rules.now) =
+    let s = c in
+    closes_here s.requires.repaintable (routes s.args.rules.now) own_block c.block_start-start.ensures c.closes_block.ensures in
+    let at-then = c in
+    let k = at-then in
+    let s = k in
+    record { closable = closable s.requires.repaintable (routes s.args.rules.now) own_block k.block_start-start.ensures (sym closing ∙ at-then.if-closes_block.true); block_value = own_block }
+
+pub returns-then-closes_block : goal.returns-then-closes_block
+returns-then-closes_block c =
+    let own_block : c.args.blocks.from ≡ block_of c.args.territory c.args.prefix.address =
+    ap (λ (x : Blocks). x.from) c.requires.blocks_value in
+    let closing : let s = c in
+    c.closes_block.result ≡ closes s.args.territory s.args.prefix (routes s.args.rules.now) =
+    let s = c in
+    closes_here s.requires.repaintable (routes s.args.rules.now) own_block c.block_start-start.ensures c.closes_block.ensures in
+    let done = c in
+    let run = done in
+    let k = run in
+    let s = k in
+    unpainted_closed s.requires.repaintable (routes s.args.rules.now) own_block k.block_start-start.ensures (sym closing ∙ run.if-closes_block.true)
+    done.close.ensures (omega (arith, run.longest-run.ensures.is))
+
+pub unpaint-requires : goal.unpaint-requires
+unpaint-requires c = let s = c.requires in record { repaintable = s.repaintable; blocks_value = s.blocks_value; listed = s.listed }
+
+pub returns : goal.returns
+returns c =
+    let own_block : c.args.blocks.from ≡ block_of c.args.territory c.args.prefix.address =
+    ap (λ (x : Blocks). x.from) c.requires.blocks_value in
+    let closing : let s = c in
+    c.closes_block.result ≡ closes s.args.territory s.args.prefix (routes s.args.rules.now) =
+    let s = c in
+    closes_here s.requires.repaintable (routes s.args.rules.now) own_block c.block_start-start.ensures c.closes_block.ensures in
+    let done = c in
+    let at-else = done in
+    let k = at-else in
+    let s = k in
+    unpainted_open s.requires.repaintable (routes s.args.rules.now) own_block k.block_start-start.ensures (sym closing ∙ at-else.if-closes_block.false) done.unpaint.ensures
