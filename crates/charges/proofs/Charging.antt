@@ -133,7 +133,7 @@ module _ (t : Prefix) (m : Lent) (lent : IsLent t m) (w : List ℕ) (long : leng
   pub charged : (s : Account) → Charged t m w s
   charged s =
       let B = balances w long (flows t m s) in
-      record { each_hop = λ h l. B.Each-word h l ∙ named_is_charged s h; all_hops = B.All-words }
+      record { each_hop = λ h l. B.each_word h l ∙ named_is_charged s h; all_hops = B.all_words }
 
 -- A call for many is so many flows of an account: what it leaves of the words is what they leave.
 pub many_carried : (t : Prefix) (m : Lent) (w : List ℕ) (xs ns : List ℕ) (s : Account)

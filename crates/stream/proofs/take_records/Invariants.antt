@@ -1,0 +1,19 @@
+-- `take_records` meets its contract: the invariant is `Going`, and the measure the bytes that are left. Assumes nothing.
+use mathlib.Core.Path.{◌≡◌, refl}
+use Prim.Native.Nat.{◌+◌, ◌-◌, ◌≤◌}
+use native.Mathlib.Omega.{arith}
+use lib.ListN.{length}
+use Rattle.stream.proofs.Taking.{Going, going_start, going_done, going_refused, going_more, record_whole}
+use Rattle.cells.specs.Memory.{lent_of}
+use borrow.Author.Rules.{rules}
+use Rattle.stream.proofs.take_records.Given as goal
+
+abbrev pub invariant-loop-at : goal.invariant-loop-at
+invariant-loop-at l =
+    (length l.first ≡ length l.initial.first) × (length l.long ≡ length l.initial.long) × (length l.owners ≡ length l.initial.owners) × (length l.rules ≡ length l.initial.rules)
+    × (length l.lines ≡ length l.initial.lines)
+    × Going l.territory l.bytes l.expected (lent_of l.initial.first l.initial.long l.initial.owners l.initial.rules) l.initial.lines (lent_of l.first l.long l.owners l.rules) l.lines l.next l.count l.at
+
+abbrev pub decreases-loop-at : goal.decreases-loop-at
+decreases-loop-at l =
+    length l.bytes - l.at
