@@ -5,7 +5,7 @@ use mathlib.Core.List.{List}
 use Prim.Native.Nat.{ℕ, ◌+◌, ◌%◌, ◌<◌}
 use native.Mathlib.Omega.{arith}
 use lib.Dec.{lit≤}
-use lib.ListN.{length, get_or}
+use lib.ListN.{get_or}
 use lib.Seq.{get_or-set_other}
 use Rattle.ground.proofs.Tests.{Decides, holds, fails, passes, stops}
 use Rattle.ground.proofs.Cases.{by_lt, by_eq}

@@ -14,7 +14,7 @@ use Rattle.ground.proofs.Tests.{Decides, leb?, and?, iff?, says, same_test}
 use Rattle.ground.proofs.Members.{mem_index, index_mem}
 use Rattle.prefix.specs.declared.Prefix.{Prefix}
 use Rattle.rules.specs.Words.{is_rule, IsRule}
-use Rattle.rules.specs.Rules.{live_words, every, formed, Formed}
+use Rattle.rules.specs.Rules.{live_words, every, Formed}
 use Rattle.rules.specs.inner.Places.{prefix_at, key_at}
 use Rattle.rules.specs.inner.Form.{InOrder, CountIs, FormIs}
 use Rattle.rules.proofs.Words.{some_word, word_order, is_rule?}

@@ -10,7 +10,7 @@ use borrow.Author.Rules.{part_to_end}
 use Rattle.prefix.specs.declared.Prefix.{Prefix}
 use Rattle.records.specs.Record.{size, read_as, next_serial}
 use Rattle.cells.specs.Memory.{Lent}
-use Rattle.updates.specs.Calls.{Outcome, step}
+use Rattle.updates.specs.Calls.{Outcome}
 use Rattle.stream.specs.declared.Step.{Step}
 use Rattle.stream.specs.declared.Step.TheVariants.{Expects, Refused}
 use Rattle.stream.specs.declared.Turn.{Turn}

@@ -19,7 +19,7 @@ use Rattle.rules.proofs.Indices.{listed_within}
 use Rattle.tables.specs.Cellwise.{paint_cell, repainted}
 use Rattle.tables.specs.Changes.{changed, left, leaves, opened_at, opened_for}
 use Rattle.tables.specs.inner.Ready.{Ready, Repaintable, Openable}
-use Rattle.refusals.specs.Codes.{announces, re_homes, code}
+use Rattle.refusals.specs.Codes.{announces, re_homes}
 use Rattle.refusals.specs.declared.codes.Checked.{Checked}
 use Rattle.refusals.specs.inner.Checks.{CheckedIs}
 use Rattle.refusals.proofs.FreeWords.{all_live}

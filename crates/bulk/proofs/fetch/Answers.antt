@@ -1,10 +1,6 @@
 -- The goals that the check leaves.
-use Prim.Native.Nat.{◌-◌}
 use native.Mathlib.Omega.{arith}
-use lib.ListN.{get_or}
-use borrow.Author.Rules.{rules}
-use Rattle.bulk.specs.inner.Passes.{fetched_of}
-use Rattle.ground.proofs.Lists.{Passed, pass_none, pass_more, pass_left, pass_all}
+use Rattle.ground.proofs.Lists.{pass_none, pass_more, pass_left, pass_all}
 use Rattle.bulk.proofs.fetch.Goals as goal
 
 pub loop-i-init : goal.loop-i-init

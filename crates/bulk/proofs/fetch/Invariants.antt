@@ -1,11 +1,9 @@
 -- `bulk::fetch` meets its contract. The loop's invariant: the answers before i are fetched, and the others are still the places in the first
 -- table. Assumes nothing.
 use Prim.Native.Nat.{◌-◌}
-use native.Mathlib.Omega.{arith}
 use lib.ListN.{get_or}
-use borrow.Author.Rules.{rules}
 use Rattle.bulk.specs.inner.Passes.{fetched_of}
-use Rattle.ground.proofs.Lists.{Passed, pass_none, pass_more, pass_left, pass_all}
+use Rattle.ground.proofs.Lists.{Passed}
 use Rattle.bulk.proofs.fetch.Given as goal
 
 abbrev pub invariant-loop-i : goal.invariant-loop-i

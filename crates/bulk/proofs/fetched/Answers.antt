@@ -8,7 +8,6 @@ use Rattle.cells.specs.Cells.{pointer_bit}
 use Rattle.lookup.specs.Lookup.{packed, says_of}
 use Rattle.lookup.proofs.Answers.{by_low, told_says, no_pointer}
 use Rattle.bulk.specs.inner.Passes.{fetched_of}
-use borrow.Author.Rules.{rules}
 use Rattle.std.proofs.Common.{ap, not}
 use Rattle.bulk.proofs.fetched.Goals as goal
 

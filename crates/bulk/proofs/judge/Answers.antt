@@ -1,11 +1,8 @@
 -- The goals that the check leaves.
 use mathlib.Core.Path.{◌≡◌, sym, subst}
 use mathlib.Core.List.{List}
-use Prim.Native.Nat.{ℕ, ◌-◌}
+use Prim.Native.Nat.{ℕ}
 use native.Mathlib.Omega.{arith}
-use lib.ListN.{get_or}
-use borrow.Author.Rules.{rules}
-use Rattle.bulk.specs.inner.Passes.{judged_of}
 use Rattle.ground.proofs.Lists.{Passed, pass_none, pass_more, pass_all}
 use Rattle.bulk.proofs.judge.Goals as goal
 

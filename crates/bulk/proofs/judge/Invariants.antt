@@ -1,12 +1,8 @@
 -- `bulk::judge` meets its contract. The loop's invariant: the answers before `done` are judged. Assumes nothing.
-use mathlib.Core.Path.{◌≡◌, sym, subst}
-use mathlib.Core.List.{List}
-use Prim.Native.Nat.{ℕ, ◌-◌}
-use native.Mathlib.Omega.{arith}
+use Prim.Native.Nat.{◌-◌}
 use lib.ListN.{get_or}
-use borrow.Author.Rules.{rules}
 use Rattle.bulk.specs.inner.Passes.{judged_of}
-use Rattle.ground.proofs.Lists.{Passed, pass_none, pass_more, pass_all}
+use Rattle.ground.proofs.Lists.{Passed}
 use Rattle.bulk.proofs.judge.Given as goal
 
 abbrev pub invariant-loop-done : goal.invariant-loop-done

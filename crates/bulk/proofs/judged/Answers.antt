@@ -4,7 +4,6 @@ use native.Mathlib.Omega.{arith}
 use Rattle.ground.proofs.Tests.{ltb?, cond_on, cond_off}
 use Rattle.prefix.specs.Geometry.{block_from}
 use Rattle.bulk.specs.inner.Passes.{judged_of}
-use borrow.Author.Rules.{rules}
 use Rattle.bulk.proofs.judged.Goals as goal
 
 pub returns-then-block_from-blocks : goal.returns-then-block_from-blocks

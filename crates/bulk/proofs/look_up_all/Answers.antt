@@ -6,7 +6,6 @@ use Rattle.prefix.proofs.Spans.{few_blocks}
 use Rattle.cells.proofs.Lending.{LentToRead}
 use Rattle.lookup.proofs.Reading.{stands}
 use Rattle.bulk.proofs.Answering.{not-lent, refuses, answered, places_lent, passes_all}
-use borrow.Author.Rules.{rules}
 use Rattle.bulk.proofs.look_up_all.Goals as goal
 
 pub returns-then-standing-ne0 : goal.returns-then-standing-ne0
@@ -35,8 +34,11 @@ fetch-requires c =
     let zero : c.standing.result ≡ 0 = omega (arith, c.if-standing-ne0.false) in (stands c.standing.ensures zero).lent in
     let room-each : let s = c.args in length s.addresses.now ≡ length s.answers.now =
     omega (arith, c.if-addresses-answers.false) in
-    let s = c.args in record { answers_len = omega (arith, room-each); by_index = places_lent s.first.now s.long.now s.territory s.addresses.now s.answers.now
-          may_read c.places.ensures }
+    let s = c.args in record {
+      answers_len = omega (arith, room-each);
+      by_index = places_lent s.first.now s.long.now s.territory s.addresses.now s.answers.now
+          may_read c.places.ensures;
+    }
 
 pub returns : goal.returns
 returns c =

@@ -4,7 +4,6 @@ use native.Mathlib.Omega.{arith}
 use Rattle.ground.proofs.Tests.{ltb?, cond_on, cond_off}
 use Rattle.prefix.specs.Geometry.{block_from}
 use Rattle.bulk.specs.inner.Passes.{place_of}
-use borrow.Author.Rules.{rules}
 use Rattle.bulk.proofs.place.Goals as goal
 
 pub returns-then-block-blocks : goal.returns-then-block-blocks

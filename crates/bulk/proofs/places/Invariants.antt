@@ -1,10 +1,8 @@
 -- `bulk::places` meets its contract. The loop's invariant: the answers before i are places. Assumes nothing.
 use Prim.Native.Nat.{◌-◌}
-use native.Mathlib.Omega.{arith}
 use lib.ListN.{get_or}
-use borrow.Author.Rules.{rules}
 use Rattle.bulk.specs.inner.Passes.{place_of}
-use Rattle.ground.proofs.Lists.{Passed, pass_none, pass_more, pass_all}
+use Rattle.ground.proofs.Lists.{Passed}
 use Rattle.bulk.proofs.places.Given as goal
 
 abbrev pub invariant-loop-i : goal.invariant-loop-i

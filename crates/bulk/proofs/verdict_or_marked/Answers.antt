@@ -3,7 +3,6 @@ use mathlib.Core.Path.{sym, ◌∙◌}
 use Rattle.ground.proofs.Tests.{leb?, says, denies, cond_on, cond_off}
 use Rattle.cells.specs.Cells.{pointer_bit}
 use Rattle.bulk.specs.inner.Passes.{verdict_or_marked}
-use borrow.Author.Rules.{rules}
 use Rattle.bulk.proofs.verdict_or_marked.Goals as goal
 
 -- past the test, the word has a pointer's bit

@@ -5,13 +5,11 @@ use Prim.Native.Nat.{◌≤◌, ◌<◌}
 use native.Mathlib.Nat.{lt_of_not-le}
 use native.Mathlib.Omega.{arith}
 use lib.ListN.{get_or}
-use borrow.Author.Tests.{not-true, not-false}
 use Rattle.ground.proofs.Tests.{leb?, iff?, stops, same_test, if_so, if_not}
 use Rattle.cells.specs.Cells.{pointer_bit}
 use Rattle.cells.specs.Memory.{Tables, tables_of}
 use Rattle.damage.specs.Damage.{segment_sound, sound_by}
 use Rattle.damage.proofs.Soundness.{is_clean?, segment_sound?, sound_by?}
-use borrow.Author.Rules.{rules}
 use Rattle.std.proofs.Common.{ap, not}
 use Rattle.damage.proofs.block_sound.Goals as goal
 

@@ -4,7 +4,6 @@ use Prim.Native.Nat.{ℕ}
 use native.Mathlib.Omega.{arith}
 use Rattle.rules.specs.inner.Blocks.{CursorAt}
 use Rattle.damage.proofs.Turns.{start_within}
-use borrow.Author.Rules.{rules}
 use Rattle.damage.proofs.blocks_sound.Goals as goal
 
 pub block_start-start-requires : goal.block_start-start-requires

@@ -1,12 +1,7 @@
 -- `clean_run` meets its contract. The invariant: `clean` says whether the first i cells of the run are. Assumes nothing.
-use mathlib.Core.Path.{◌≡◌, refl, sym, ap, ap₂, ◌∙◌}
-use mathlib.Core.Bool.{◌&&◌}
+use mathlib.Core.Path.{◌≡◌}
 use Prim.Native.Nat.{◌-◌, ◌≤◌}
-use native.Mathlib.Omega.{arith}
-use borrow.Author.Rules.{rules}
-use Rattle.ground.specs.Lists.{every_below}
 use Rattle.damage.specs.inner.Walk.{clean_run}
-use Rattle.damage.proofs.Soundness.{clean_more}
 use Rattle.damage.proofs.clean_run.Given as goal
 
 abbrev pub invariant-loop-i : goal.invariant-loop-i

@@ -6,7 +6,6 @@ use borrow.Author.Tests.{ne_eqb}
 use Rattle.ground.proofs.Tests.{passes}
 use Rattle.cells.specs.Cells.{is_direct}
 use Rattle.damage.proofs.Soundness.{is_clean?}
-use borrow.Author.Rules.{rules}
 use Rattle.damage.proofs.is_clean.Goals as goal
 
 pub returns-then-cell-eq-EMPTY : goal.returns-then-cell-eq-EMPTY

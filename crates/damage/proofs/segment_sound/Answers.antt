@@ -3,7 +3,6 @@ use mathlib.Core.Path.{sym, ◌∙◌}
 use native.Mathlib.Omega.{arith}
 use Rattle.ground.proofs.Tests.{iff?, stops, same_test}
 use Rattle.damage.proofs.Soundness.{clean_run?, segment_sound?}
-use borrow.Author.Rules.{rules}
 use Rattle.damage.proofs.segment_sound.Goals as goal
 
 pub returns-then-owners-segment : goal.returns-then-owners-segment

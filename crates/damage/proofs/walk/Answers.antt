@@ -1,6 +1,6 @@
 -- The goals that the check leaves.
 use mathlib.Core.Path.{◌≡◌, sym, subst}
-use Prim.Native.Nat.{ℕ, ◌+◌, ◌-◌, ◌*◌, ◌≤◌, ◌<◌}
+use Prim.Native.Nat.{ℕ, ◌+◌, ◌*◌, ◌<◌}
 use native.Mathlib.Omega.{arith}
 use lib.ListN.{length}
 use borrow.Author.Rules.{rules}
@@ -10,7 +10,7 @@ use Rattle.prefix.proofs.Spans.{aligned}
 use Rattle.cells.proofs.Lending.{few_firsts}
 use Rattle.rules.specs.inner.Blocks.{CursorAt}
 use Rattle.damage.proofs.Soundness.{CleanRun, clean_run?, sound_by?, sound_run?}
-use Rattle.damage.proofs.Turns.{Walked, start_within, clean_run_lem, sound_run_lem, sound_here, walked_on}
+use Rattle.damage.proofs.Turns.{start_within, clean_run_lem, sound_run_lem, sound_here, walked_on}
 use Rattle.std.proofs.Common.{ap, not}
 use Rattle.damage.proofs.walk.Goals as goal
 
@@ -59,8 +59,19 @@ block_start-next-requires c =
 pub pass-cursor-requires : goal.pass-cursor-requires
 pass-cursor-requires c =
     let s = c in
-    let same : c.block_start-start.result + block_size * c.stretch-closed.result ≡ c.block_start-next.result = omega (arith, c.block_start-start.ensures, c.block_start-next.ensures) in record { listed = s.requires.listed; cursor_at = subst (λ (a : ℕ). CursorAt s.args.rules.now s.args.used a c.loop-block.here) same c.stretch-closed.ensures.cursor; block_size_value = (omega (arith, c.block_start-next.ensures, aligned s.requires.sized.territory), omega (arith, c.block_start-next.ensures, (let s = c in
-    start_within s.requires.sized (omega (arith, s.well_formed)) (c.loop-block.block + c.stretch-closed.result) (omega (arith, s.requires.lent.all, c.stretch-closed.ensures.within))))) }
+    let same : c.block_start-start.result + block_size * c.stretch-closed.result ≡ c.block_start-next.result = omega (arith, c.block_start-start.ensures, c.block_start-next.ensures) in record {
+      listed = s.requires.listed;
+      cursor_at = subst (λ (a : ℕ). CursorAt s.args.rules.now s.args.used a c.loop-block.here) same c.stretch-closed.ensures.cursor;
+      block_size_value = (
+        omega (arith, c.block_start-next.ensures, aligned s.requires.sized.territory),
+        omega (
+          arith,
+          c.block_start-next.ensures,
+          (let s = c in
+              start_within s.requires.sized (omega (arith, s.well_formed)) (c.loop-block.block + c.stretch-closed.result) (omega (arith, s.requires.lent.all, c.stretch-closed.ensures.within))),
+        ),
+      );
+    }
 
 pub block_sound-requires : goal.block_sound-requires
 block_sound-requires c =

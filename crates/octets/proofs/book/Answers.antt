@@ -1,7 +1,6 @@
 -- `book` meets its contract: look up answers, and its answer is entered. Assumes nothing.
 use mathlib.Core.Path.{sym, subst}
 use native.Mathlib.Omega.{arith}
-use borrow.Author.Rules.{rules}
 use Rattle.lookup.proofs.Answers.{Told, told_look}
 use Rattle.octets.proofs.Entering.{wrong_words, booked}
 use Rattle.octets.proofs.book.Goals as goal

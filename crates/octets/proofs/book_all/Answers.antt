@@ -6,7 +6,6 @@ use native.Mathlib.Omega.{arith}
 use Rattle.octets.specs.inner.Numbers.{enter_each}
 use Rattle.bulk.proofs.Answering.{has_answered, has_refused}
 use Rattle.octets.proofs.Going.{hops_small, refused_whole, booked_each}
-use borrow.Author.Rules.{rules}
 use Rattle.octets.proofs.book_all.Goals as goal
 
 pub returns-then-octets-ne-COUNT : goal.returns-then-octets-ne-COUNT

@@ -1,11 +1,10 @@
 -- The goals that the check leaves.
 use mathlib.Core.Path.{◌≡◌, refl, ap, ◌∙◌}
-use mathlib.Core.List.{List, ◌++◌}
-use Prim.Native.Nat.{ℕ, ◌-◌, ◌≤◌}
+use mathlib.Core.List.{List}
+use Prim.Native.Nat.{ℕ}
 use native.Mathlib.Omega.{arith}
-use lib.ListN.{length, set, drop, replicate, length-set}
+use lib.ListN.{length, set, length-set}
 use borrow.Author.Fill.{fill_more}
-use borrow.Author.Rules.{rules}
 use Rattle.octets.specs.Words.{word_count}
 use Rattle.octets.proofs.Entering.{not-cleared, all_cleared}
 use Rattle.octets.proofs.clear_octets.Goals as goal

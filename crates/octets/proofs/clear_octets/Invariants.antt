@@ -1,13 +1,9 @@
 -- `clear_octets` meets its contract: the words before i are 0, and the others as they were. Assumes nothing.
-use mathlib.Core.Path.{◌≡◌, refl, ap, ◌∙◌}
-use mathlib.Core.List.{List, ◌++◌}
-use Prim.Native.Nat.{ℕ, ◌-◌, ◌≤◌}
-use native.Mathlib.Omega.{arith}
-use lib.ListN.{length, set, drop, replicate, length-set}
-use borrow.Author.Fill.{fill_more}
-use borrow.Author.Rules.{rules}
+use mathlib.Core.Path.{◌≡◌}
+use mathlib.Core.List.{◌++◌}
+use Prim.Native.Nat.{◌-◌, ◌≤◌}
+use lib.ListN.{length, drop, replicate}
 use Rattle.octets.specs.Words.{word_count}
-use Rattle.octets.proofs.Entering.{not-cleared, all_cleared}
 use Rattle.octets.proofs.clear_octets.Given as goal
 
 abbrev pub invariant-loop-i : goal.invariant-loop-i

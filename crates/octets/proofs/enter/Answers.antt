@@ -3,7 +3,6 @@ use mathlib.Core.Path.{◌≡◌}
 use native.Mathlib.Omega.{arith}
 use Rattle.octets.specs.Booking.{refusal_of}
 use Rattle.octets.proofs.Entering.{turned_away, too_much, entered}
-use borrow.Author.Rules.{rules}
 use Rattle.octets.proofs.enter.Goals as goal
 
 pub returns-then-refused-ne0 : goal.returns-then-refused-ne0

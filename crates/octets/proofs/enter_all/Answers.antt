@@ -1,15 +1,12 @@
 -- The goals that the check leaves.
-use mathlib.Core.Path.{◌≡◌, ap, ◌∙◌}
-use Prim.Native.Nat.{◌-◌, ◌<◌}
+use mathlib.Core.Path.{ap, ◌∙◌}
+use Prim.Native.Nat.{◌<◌}
 use native.Mathlib.Omega.{arith}
 use lib.ListN.{length, get_or}
-use borrow.Author.Rules.{rules}
 use Rattle.lookup.specs.declared.look.Answer.{Answer}
-use Rattle.octets.specs.Words.{word_count}
 use Rattle.octets.specs.Booking.{enter}
-use Rattle.octets.specs.inner.Numbers.{enter_number}
 use Rattle.octets.proofs.Entering.{enter_long}
-use Rattle.octets.proofs.Going.{Going, going_none, going_at, going_more, going_all}
+use Rattle.octets.proofs.Going.{going_none, going_at, going_more, going_all}
 use Rattle.octets.proofs.enter_all.Goals as goal
 
 pub loop-i-init : goal.loop-i-init

@@ -1,6 +1,5 @@
 -- `rk_cost_line` meets its contract: the line, and what it stands for. Assumes nothing.
 use mathlib.Core.Path.{ap, ◌∙◌}
-use borrow.Author.Rules.{rules}
 use Rattle.costs.specs.Lines.{values_of}
 use Rattle.rakmolthi.proofs.rk_cost_line.Goals as goal
 

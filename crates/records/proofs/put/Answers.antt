@@ -1,6 +1,6 @@
 -- `records::put` meets its contract: each call keeps the room's length, so each place is within it, and the fields stored one after
 -- another are the bytes of the update. Assumes nothing.
-use Rattle.std.proofs.Common.{◌≤◌, length, set, arith, length-set, rules}
+use Rattle.std.proofs.Common.{◌≤◌, length, set, arith, length-set}
 use Rattle.records.proofs.Laws.{by_bytes, stored}
 use Rattle.records.proofs.put.Goals as goal
 
@@ -14,7 +14,7 @@ pub put_u32-requires-2 : goal.put_u32-requires-2
 put_u32-requires-2 c =
     let serial-put : 15 ≤ length c.put_u32.new.room =
     omega (arith, simp length-set at c.put_u32.auto.room) in
- omega (arith, serial-put)
+    omega (arith, serial-put)
 
 pub bounds-room-12 : goal.bounds-room-12
 bounds-room-12 c =
@@ -22,7 +22,7 @@ bounds-room-12 c =
     omega (arith, simp length-set at c.put_u32.auto.room) in
     let address-put : 15 ≤ length c.put_u32-2.new.room =
     omega (arith, serial-put, c.put_u32-2.auto.room) in
- omega (arith, address-put)
+    omega (arith, address-put)
 
 pub put_u16-requires-2 : goal.put_u16-requires-2
 put_u16-requires-2 c =
@@ -30,7 +30,7 @@ put_u16-requires-2 c =
     omega (arith, simp length-set at c.put_u32.auto.room) in
     let address-put : 15 ≤ length c.put_u32-2.new.room =
     omega (arith, serial-put, c.put_u32-2.auto.room) in
- simp length-set (omega (arith, address-put))
+    simp length-set (omega (arith, address-put))
 
 pub returns : goal.returns
 returns c =

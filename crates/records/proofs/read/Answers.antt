@@ -1,5 +1,5 @@
 -- `records::read` meets its contract: each answer is a law of `Laws`, at the tests that led there. Assumes nothing.
-use Rattle.std.proofs.Common.{◌∙◌, arith, rules}
+use Rattle.std.proofs.Common.{◌∙◌, arith}
 use Rattle.records.proofs.Laws.{no_length, other_length, cut_short, other-version, goes_on_lem}
 use Rattle.records.proofs.read.Goals as goal
 

@@ -1,5 +1,4 @@
 -- `records::update_of` meets its contract: each field is what its callee ensures. Assumes nothing.
-use Rattle.std.proofs.Common.{rules}
 use Rattle.records.proofs.update_of.Goals as goal
 
 pub returns : goal.returns

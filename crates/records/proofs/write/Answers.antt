@@ -1,5 +1,5 @@
 -- `records::write` meets its contract: each answer is a law of `Laws`, at the tests that led there. Assumes nothing.
-use Rattle.std.proofs.Common.{not, sym, ap, ◌∙◌, arith, rules}
+use Rattle.std.proofs.Common.{not, sym, ap, ◌∙◌, arith}
 use Rattle.records.proofs.Laws.{no_room, no_kind, stray_hop_lem, fills}
 use Rattle.std.proofs.Common.{ap, not}
 use Rattle.records.proofs.write.Goals as goal

@@ -3,10 +3,9 @@ use mathlib.Core.Path.{◌≡◌, sym, subst, ◌∙◌}
 use mathlib.Core.Bool.{false}
 use Prim.Native.Nat.{ℕ}
 use native.Mathlib.Omega.{arith}
-use borrow.Author.Tests.{not-true, not-false}
 use Rattle.rules.proofs.Indices.{listed_within}
 use Rattle.runs.specs.inner.Steps.{match_or_none, SharedIs}
-use Rattle.runs.proofs.Places.{Climbing, climb_start, climb_done, climb_some, climb_length, climb_back, climb_more}
+use Rattle.runs.proofs.Places.{climb_start, climb_done, climb_some, climb_length, climb_back, climb_more}
 use Rattle.runs.proofs.climb.Goals as goal
 
 pub loop-length-init : goal.loop-length-init

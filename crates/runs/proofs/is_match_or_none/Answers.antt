@@ -4,7 +4,6 @@ use mathlib.Core.Logic.{inl}
 use Prim.Native.Nat.{◌-◌}
 use native.Mathlib.Omega.{arith}
 use borrow.Author.Tests.{ne_eqb}
-use borrow.Author.Rules.{rules}
 use Rattle.ground.proofs.Tests.{passes}
 use Rattle.prefix.specs.declared.Prefix.{Prefix}
 use Rattle.prefix.proofs.Prefixes.{contains_of}

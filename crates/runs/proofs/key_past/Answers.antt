@@ -2,7 +2,6 @@
 use mathlib.Core.Path.{ap}
 use Prim.Native.Nat.{ℕ}
 use native.Mathlib.Omega.{arith}
-use borrow.Author.Rules.{rules}
 use Rattle.rules.specs.Words.{key_of}
 use Rattle.rules.proofs.Words.{key_room}
 use Rattle.runs.proofs.key_past.Goals as goal

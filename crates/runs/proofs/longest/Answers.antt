@@ -1,7 +1,6 @@
 -- `runs::longest` meets its contract: the next start bounds the run, and the climb finds the longest match, if there is one. Assumes nothing.
 use Prim.Native.Nat.{◌-◌}
 use native.Mathlib.Omega.{arith}
-use borrow.Author.Rules.{rules}
 use Rattle.rules.proofs.Indices.{listed_within, listed_route}
 use Rattle.runs.proofs.Covered.{run_none, run_found}
 use Rattle.runs.proofs.longest.Goals as goal

@@ -2,7 +2,6 @@
 -- Assumes nothing.
 use mathlib.Core.Path.{◌≡◌}
 use native.Mathlib.Omega.{arith}
-use borrow.Author.Rules.{rules}
 use Rattle.rules.proofs.Indices.{listed_within}
 use Rattle.runs.proofs.Places.{next_none, next_some}
 use Rattle.runs.proofs.next.Goals as goal

@@ -2,7 +2,6 @@
 use mathlib.Core.Path.{refl, ap, ap₂, ◌∙◌}
 use Prim.Native.Nat.{◌+◌}
 use native.Mathlib.Omega.{arith}
-use borrow.Author.Rules.{rules}
 use Rattle.prefix.specs.Prefixes.{span}
 use Rattle.prefix.proofs.Prefixes.{span_fits}
 use Rattle.cells.specs.Cells.{pack}

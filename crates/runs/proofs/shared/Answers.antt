@@ -1,7 +1,6 @@
 -- `runs::shared` meets its contract: the leading zeros of the exclusive or are the bits that the two share, and the limit may allow fewer.
 -- Assumes nothing.
 use native.Mathlib.Omega.{arith}
-use borrow.Author.Rules.{rules}
 use Rattle.runs.proofs.SharedBits.{agree_to, apart_from}
 use Rattle.runs.proofs.shared.Goals as goal
 

@@ -1,5 +1,4 @@
 -- `runs::up_to` meets its contract: the words whose key is below the lowest past the address are those up to it. Assumes nothing.
-use borrow.Author.Rules.{rules}
 use Rattle.runs.proofs.Places.{at_key}
 use Rattle.runs.proofs.up_to.Goals as goal
 

@@ -2,7 +2,6 @@
 -- from `from` on. Assumes nothing.
 use mathlib.Core.Path.{sym, subst}
 use Prim.Native.Nat.{ℕ}
-use borrow.Author.Rules.{rules}
 use Rattle.rules.specs.inner.Places.{Bracket}
 use Rattle.runs.proofs.Places.{at_key}
 use Rattle.runs.proofs.up_to_before.Goals as goal

@@ -3,7 +3,6 @@ use native.Mathlib.Omega.{arith}
 use Rattle.ground.proofs.Tests.{if_so, if_not}
 use Rattle.sheet.proofs.Refusing.{Tested, within?, refused_1, refused_30, refused_31, filled_0, tested_sound}
 use Rattle.sheet.proofs.Sorted.{ranked_run}
-use borrow.Author.Rules.{rules}
 use Rattle.std.proofs.Common.{ap, not}
 use Rattle.sheet.proofs.cost_sheet.Goals as goal
 

@@ -1,10 +1,10 @@
 -- The goals that the check leaves.
 use mathlib.Core.Path.{sym}
-use Prim.Native.Nat.{◌-◌, ◌≤◌}
+use Prim.Native.Nat.{◌-◌}
 use native.Mathlib.Omega.{arith}
 use lib.ListN.{length}
 use Rattle.ground.proofs.Tests.{passes, stops}
-use Rattle.sheet.proofs.Refusing.{Small, small_end, small_more, within?}
+use Rattle.sheet.proofs.Refusing.{small_end, small_more, within?}
 use Rattle.sheet.proofs.within.Goals as goal
 
 pub loop-i-init : goal.loop-i-init

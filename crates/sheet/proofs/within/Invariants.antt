@@ -1,10 +1,7 @@
 -- `within` meets its contract. The invariant: no word from i on has passed 2 ^ 53. Assumes nothing.
-use mathlib.Core.Path.{sym}
-use Prim.Native.Nat.{◌-◌, ◌≤◌}
-use native.Mathlib.Omega.{arith}
+use Prim.Native.Nat.{◌≤◌}
 use lib.ListN.{length}
-use Rattle.ground.proofs.Tests.{passes, stops}
-use Rattle.sheet.proofs.Refusing.{Small, small_end, small_more, within?}
+use Rattle.sheet.proofs.Refusing.{Small}
 use Rattle.sheet.proofs.within.Given as goal
 
 abbrev pub invariant-loop-i : goal.invariant-loop-i

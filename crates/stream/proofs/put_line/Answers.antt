@@ -3,7 +3,6 @@ use Prim.Native.Nat.{◌*◌}
 use native.Mathlib.Omega.{arith}
 use lib.ListN.{length-set}
 use Rattle.stream.proofs.Taking.{line_put}
-use borrow.Author.Rules.{rules}
 use Rattle.stream.proofs.put_line.Goals as goal
 
 pub bounds-lines-at-2 : goal.bounds-lines-at-2

@@ -1,9 +1,8 @@
 -- `take_record` meets its contract: each answer is a law of `Calling`, at the test that led there. Assumes nothing.
 use mathlib.Core.Path.{◌≡◌}
 use native.Mathlib.Omega.{arith}
-use Rattle.cells.specs.Memory.{Lent, lent_of}
+use Rattle.cells.specs.Memory.{lent_of}
 use Rattle.stream.proofs.Calling.{turn_refused, turn_taken}
-use borrow.Author.Rules.{rules}
 use Rattle.stream.proofs.take_record.Goals as goal
 
 pub returns-then-reading-ne0 : goal.returns-then-reading-ne0

@@ -1,10 +1,9 @@
 -- The goals that the check leaves.
 use mathlib.Core.Path.{◌≡◌, refl}
-use Prim.Native.Nat.{◌+◌, ◌-◌, ◌≤◌}
+use Prim.Native.Nat.{◌+◌, ◌≤◌}
 use native.Mathlib.Omega.{arith}
 use lib.ListN.{length}
-use Rattle.stream.proofs.Taking.{Going, going_start, going_done, going_refused, going_more, record_whole}
-use Rattle.cells.specs.Memory.{lent_of}
+use Rattle.stream.proofs.Taking.{going_start, going_done, going_refused, going_more, record_whole}
 use borrow.Author.Rules.{rules}
 use Rattle.stream.proofs.take_records.Goals as goal
 

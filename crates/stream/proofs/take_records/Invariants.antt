@@ -1,11 +1,9 @@
 -- `take_records` meets its contract: the invariant is `Going`, and the measure the bytes that are left. Assumes nothing.
-use mathlib.Core.Path.{◌≡◌, refl}
-use Prim.Native.Nat.{◌+◌, ◌-◌, ◌≤◌}
-use native.Mathlib.Omega.{arith}
+use mathlib.Core.Path.{◌≡◌}
+use Prim.Native.Nat.{◌-◌}
 use lib.ListN.{length}
-use Rattle.stream.proofs.Taking.{Going, going_start, going_done, going_refused, going_more, record_whole}
+use Rattle.stream.proofs.Taking.{Going}
 use Rattle.cells.specs.Memory.{lent_of}
-use borrow.Author.Rules.{rules}
 use Rattle.stream.proofs.take_records.Given as goal
 
 abbrev pub invariant-loop-at : goal.invariant-loop-at

@@ -1,9 +1,8 @@
 -- `take_update` meets its contract: each kind's law of `Calling`. Assumes nothing.
 use mathlib.Core.Path.{◌≡◌}
 use native.Mathlib.Omega.{arith}
-use Rattle.cells.specs.Memory.{Lent, lent_of}
+use Rattle.cells.specs.Memory.{lent_of}
 use Rattle.stream.proofs.Calling.{announcing, withdrawing, re_homing}
-use borrow.Author.Rules.{rules}
 use Rattle.stream.proofs.take_update.Goals as goal
 
 pub returns-then-update-eq-ANNOUNCE : goal.returns-then-update-eq-ANNOUNCE

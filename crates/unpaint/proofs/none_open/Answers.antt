@@ -1,9 +1,7 @@
 -- The goals that the check leaves.
-use Prim.Native.Nat.{◌-◌}
 use native.Mathlib.Omega.{arith}
 use borrow.Author.Tests.{eqb-true}
-use Rattle.unpaint.proofs.Unpainting.{PointersCounted, count_start, count_more}
-use borrow.Author.Rules.{rules}
+use Rattle.unpaint.proofs.Unpainting.{count_start, count_more}
 use Rattle.unpaint.proofs.none_open.Goals as goal
 
 pub loop-i-init : goal.loop-i-init

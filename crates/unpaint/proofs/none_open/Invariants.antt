@@ -1,10 +1,7 @@
 -- `none_open` meets its contract. The loop's invariant: where no pointer is counted, the first cells before i are none. The measure is
 -- what is left of the blocks. Assumes nothing.
 use Prim.Native.Nat.{◌-◌}
-use native.Mathlib.Omega.{arith}
-use borrow.Author.Tests.{eqb-true}
-use Rattle.unpaint.proofs.Unpainting.{PointersCounted, count_start, count_more}
-use borrow.Author.Rules.{rules}
+use Rattle.unpaint.proofs.Unpainting.{PointersCounted}
 use Rattle.unpaint.proofs.none_open.Given as goal
 
 abbrev pub invariant-loop-i : goal.invariant-loop-i

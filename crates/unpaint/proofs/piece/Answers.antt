@@ -1,7 +1,6 @@
 -- `piece` meets its contract: the piece is the number of blocks that are asked for, or one where a pointer is among them. Assumes
 -- nothing.
 use native.Mathlib.Omega.{arith}
-use borrow.Author.Rules.{rules}
 use Rattle.unpaint.proofs.piece.Goals as goal
 
 pub returns-then-none_open : goal.returns-then-none_open

@@ -1,11 +1,8 @@
 -- `replace_run` meets its contract. The loop's invariant: the cells before i are replaced, and `changed` of them differ. The measure is
 -- what is left of the run. Assumes nothing.
 use Prim.Native.Nat.{◌-◌}
-use native.Mathlib.Omega.{arith}
-use borrow.Author.Rules.{rules}
-use Rattle.ground.proofs.Lists.{differs_small}
 use Rattle.unpaint.specs.inner.Unpaint.{replaced}
-use Rattle.tables.proofs.Ranges.{Reached, start, turn, finish}
+use Rattle.tables.proofs.Ranges.{Reached}
 use Rattle.unpaint.proofs.replace_run.Given as goal
 
 abbrev pub invariant-loop-i : goal.invariant-loop-i

@@ -1,7 +1,6 @@
 -- `replaced` meets its contract. Assumes nothing.
 use mathlib.Core.Path.{sym, ◌∙◌}
 use Rattle.unpaint.proofs.Unpainting.{replaced_stay, replaced_new}
-use borrow.Author.Rules.{rules}
 use Rattle.unpaint.proofs.replaced.Goals as goal
 
 pub returns-then-stays : goal.returns-then-stays

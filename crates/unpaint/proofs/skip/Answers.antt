@@ -1,11 +1,7 @@
 -- The goals that the check leaves.
 use mathlib.Core.Path.{sym, ◌∙◌}
-use Prim.Native.Nat.{◌-◌}
 use native.Mathlib.Omega.{arith}
-use borrow.Author.Tests.{not-false}
-use Rattle.unpaint.specs.inner.Unpaint.{Skipped}
 use Rattle.unpaint.proofs.Unpainting.{skip_start, skip_more}
-use borrow.Author.Rules.{rules}
 use Rattle.unpaint.proofs.skip.Goals as goal
 
 pub loop-i-init : goal.loop-i-init

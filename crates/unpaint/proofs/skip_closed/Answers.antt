@@ -1,11 +1,8 @@
 -- The goals that the check leaves.
 use mathlib.Core.Path.{sym, ◌∙◌}
-use Prim.Native.Nat.{◌-◌}
 use native.Mathlib.Omega.{arith}
-use borrow.Author.Tests.{leb-false, not-false}
-use Rattle.unpaint.specs.inner.Unpaint.{SkippedClosed}
+use borrow.Author.Tests.{leb-false}
 use Rattle.unpaint.proofs.Unpainting.{closed_start, closed_more}
-use borrow.Author.Rules.{rules}
 use Rattle.unpaint.proofs.skip_closed.Goals as goal
 
 pub loop-i-init : goal.loop-i-init

@@ -1,12 +1,7 @@
 -- `skip_closed` meets its contract. The loop's invariant: the first cells before i are no pointers and stay. The measure is what is left of
 -- the blocks. Assumes nothing.
-use mathlib.Core.Path.{sym, ◌∙◌}
 use Prim.Native.Nat.{◌-◌}
-use native.Mathlib.Omega.{arith}
-use borrow.Author.Tests.{leb-false, not-false}
 use Rattle.unpaint.specs.inner.Unpaint.{SkippedClosed}
-use Rattle.unpaint.proofs.Unpainting.{closed_start, closed_more}
-use borrow.Author.Rules.{rules}
 use Rattle.unpaint.proofs.skip_closed.Given as goal
 
 abbrev pub invariant-loop-i : goal.invariant-loop-i

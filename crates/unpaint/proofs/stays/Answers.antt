@@ -6,7 +6,6 @@ use native.Mathlib.Omega.{arith}
 use lib.Dec.{eqb}
 use Rattle.ground.proofs.Tests.{passes}
 use Rattle.unpaint.proofs.Unpainting.{stays?, stays-other}
-use borrow.Author.Rules.{rules}
 use Rattle.unpaint.proofs.stays.Goals as goal
 
 pub returns-then-cell-eq-EMPTY : goal.returns-then-cell-eq-EMPTY

@@ -1,12 +1,9 @@
 -- The goals that the check leaves.
-use Prim.Native.Nat.{◌-◌, ◌≤◌}
 use native.Mathlib.Nat.{le_refl, le_antisymm}
 use native.Mathlib.Omega.{arith}
 use Rattle.rules.specs.Rules.{routes}
 use Rattle.runs.proofs.Covered.{kept_later}
-use Rattle.unpaint.specs.inner.Unpaint.{BlocksUnpainted}
-use Rattle.cells.specs.Memory.{tables_of}
-use Rattle.tables.proofs.Blocks.{blocks_none, few_blocks, blocks_then, ready_then, same_firsts, same_longs}
+use Rattle.tables.proofs.Blocks.{blocks_none, few_blocks, blocks_then, ready_then, same_firsts}
 use Rattle.unpaint.proofs.Unpainting.{blocks_passed}
 use Rattle.unpaint.proofs.unpaint_blocks.Goals as goal
 

@@ -1,14 +1,8 @@
 -- `unpaint_blocks` meets its contract. The loop's invariant: the blocks before `block` are repainted, `changed` of their cells differ,
 -- and the run kept holds at the address of `block`. The measure is what is left of the blocks. Assumes nothing.
 use Prim.Native.Nat.{◌-◌, ◌≤◌}
-use native.Mathlib.Nat.{le_refl, le_antisymm}
-use native.Mathlib.Omega.{arith}
-use Rattle.rules.specs.Rules.{routes}
-use Rattle.runs.proofs.Covered.{kept_later}
 use Rattle.unpaint.specs.inner.Unpaint.{BlocksUnpainted}
 use Rattle.cells.specs.Memory.{tables_of}
-use Rattle.tables.proofs.Blocks.{blocks_none, few_blocks, blocks_then, ready_then, same_firsts, same_longs}
-use Rattle.unpaint.proofs.Unpainting.{blocks_passed}
 use Rattle.unpaint.proofs.unpaint_blocks.Given as goal
 
 abbrev pub invariant-loop-block : goal.invariant-loop-block

@@ -2,12 +2,9 @@
 use Prim.Native.Nat.{ℕ, ◌+◌, ◌-◌}
 use native.Mathlib.Omega.{arith}
 use Rattle.rules.specs.Rules.{routes}
-use Rattle.runs.specs.inner.Kept.{Kept}
 use Rattle.runs.proofs.Covered.{kept_later}
-use Rattle.tables.specs.Cellwise.{unpaint_cell}
-use Rattle.tables.proofs.Ranges.{Reached, start, finish}
+use Rattle.tables.proofs.Ranges.{start, finish}
 use Rattle.unpaint.proofs.Unpainting.{skipped_run, skipped_from, run_taken, part, part_none}
-use borrow.Author.Rules.{rules}
 use Rattle.unpaint.proofs.unpaint_run.Goals as goal
 
 pub loop-i-init : goal.loop-i-init

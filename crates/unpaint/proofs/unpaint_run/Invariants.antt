@@ -1,14 +1,10 @@
 -- `unpaint_run` meets its contract. The loop's invariant: the cells before i are repainted, `changed` of them differ, and the run
 -- kept holds at the address of i. The measure is what is left of the run. Assumes nothing.
-use Prim.Native.Nat.{ℕ, ◌+◌, ◌-◌}
-use native.Mathlib.Omega.{arith}
+use Prim.Native.Nat.{◌+◌, ◌-◌}
 use Rattle.rules.specs.Rules.{routes}
 use Rattle.runs.specs.inner.Kept.{Kept}
-use Rattle.runs.proofs.Covered.{kept_later}
 use Rattle.tables.specs.Cellwise.{unpaint_cell}
-use Rattle.tables.proofs.Ranges.{Reached, start, finish}
-use Rattle.unpaint.proofs.Unpainting.{skipped_run, skipped_from, run_taken, part, part_none}
-use borrow.Author.Rules.{rules}
+use Rattle.tables.proofs.Ranges.{Reached}
 use Rattle.unpaint.proofs.unpaint_run.Given as goal
 
 abbrev pub invariant-loop-i : goal.invariant-loop-i

@@ -16,7 +16,6 @@ use Rattle.tables.specs.inner.Ready.{segment_at, Owns}
 use Rattle.unpaint.specs.inner.Unpaint.{Asking}
 use Rattle.tables.proofs.Blocks.{block_points, segment_within, run_addressed, block_ends}
 use Rattle.unpaint.proofs.Unpainting.{run_taken, blocks_closed, closed_one}
-use borrow.Author.Rules.{rules}
 use Rattle.unpaint.proofs.unpaint_some.Goals as goal
 
 pub block_start-start-requires : goal.block_start-start-requires

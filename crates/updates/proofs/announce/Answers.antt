@@ -1,10 +1,9 @@
 -- `announce` meets its contract: the number that was checked is the call's, and what it hands on can be put in. Assumes nothing.
-use Rattle.cells.specs.Memory.{Lent, lent_of}
+use Rattle.cells.specs.Memory.{lent_of}
 use Rattle.rules.specs.Words.{route_by}
 use Rattle.refusals.specs.Codes.{announces}
 use Rattle.updates.proofs.Putting.{announce_puttable}
 use Rattle.updates.proofs.Outcomes.{steps}
-use borrow.Author.Rules.{rules}
 use Rattle.updates.proofs.announce.Goals as goal
 
 pub put_checked-requires : goal.put_checked-requires

@@ -1,10 +1,9 @@
 -- `clear` meets its contract: a refusal writes nothing, and else each slice is set to 0. Assumes nothing.
 use mathlib.Core.Path.{◌≡◌}
-use Rattle.cells.specs.Memory.{Lent, lent_of}
+use Rattle.cells.specs.Memory.{lent_of}
 use Rattle.updates.specs.Effects.{cleared}
 use Rattle.updates.proofs.Outcomes.{clear-refused, clear-accepted}
 use native.Mathlib.Omega.{arith}
-use borrow.Author.Rules.{rules}
 use Rattle.updates.proofs.clear.Goals as goal
 
 pub returns-then-code-ne0 : goal.returns-then-code-ne0

@@ -1,9 +1,8 @@
 -- `withdraw` meets its contract: the number that was checked is the call's, and what it hands on can be taken out. Assumes nothing.
-use Rattle.cells.specs.Memory.{Lent, lent_of}
+use Rattle.cells.specs.Memory.{lent_of}
 use Rattle.refusals.specs.Codes.{withdraws}
 use Rattle.updates.proofs.Taking.{withdraw_takable}
 use Rattle.updates.proofs.Outcomes.{steps}
-use borrow.Author.Rules.{rules}
 use Rattle.updates.proofs.withdraw.Goals as goal
 
 pub take_checked-requires : goal.take_checked-requires

@@ -1,8 +1,7 @@
 -- The goals that the check leaves.
-use mathlib.Core.Path.{◌≡◌, sym}
-use Prim.Native.Nat.{ℕ, ◌-◌, ◌≤◌, ◌<◌}
+use mathlib.Core.Path.{sym}
 use native.Mathlib.Omega.{arith}
-use lib.ListN.{length, get_or, get_or-eq_default}
+use lib.ListN.{get_or-eq_default}
 use borrow.Author.Count.{below_more}
 use borrow.Author.Rules.{rules}
 use Rattle.cells.proofs.FreeSegments.{lowest_is}

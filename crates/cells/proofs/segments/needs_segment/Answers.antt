@@ -5,7 +5,6 @@ use native.Mathlib.Omega.{arith}
 use Rattle.ground.proofs.Tests.{ltb?, passes, stops}
 use Rattle.prefix.specs.Geometry.{width}
 use Rattle.cells.specs.Cells.{is_pointer}
-use borrow.Author.Rules.{rules}
 use Rattle.cells.proofs.segments.needs_segment.Goals as goal
 
 pub returns-then-length-le-WIDTH : goal.returns-then-length-le-WIDTH

@@ -1,7 +1,6 @@
 -- `sizes::lent` meets its contract: each test that fails is one that the sizes had to pass. Assumes nothing.
 use mathlib.Core.Path.{sym}
 use native.Mathlib.Omega.{arith}
-use borrow.Author.Rules.{rules}
 use Rattle.ground.proofs.Tests.{eqb?, iff?, stops, if_so, if_not, same_test}
 use Rattle.prefix.specs.Geometry.{Territory}
 use Rattle.prefix.proofs.Spans.{is_territory?}

@@ -1,7 +1,6 @@
 -- `cost_line` meets its contract. Assumes nothing.
 use native.Mathlib.Omega.{arith}
 use Rattle.costs.proofs.Saying.{line_1, line_2, line_words}
-use borrow.Author.Rules.{rules}
 use Rattle.costs.proofs.line.cost_line.Goals as goal
 
 pub returns-then-octets-ne-COUNT : goal.returns-then-octets-ne-COUNT

@@ -1,7 +1,6 @@
 -- `line_of` meets its contract. Assumes nothing.
 use native.Mathlib.Omega.{arith}
 use Rattle.costs.proofs.Saying.{words_30, words_31, words_none, words_rate}
-use borrow.Author.Rules.{rules}
 use Rattle.costs.proofs.line.line_of.Goals as goal
 
 pub returns-then-octets-gt-MOST : goal.returns-then-octets-gt-MOST

@@ -2,7 +2,6 @@
 use mathlib.Core.Path.{sym, ap}
 use lib.Ieee.{of_bits}
 use Rattle.costs.specs.Lines.{values_of}
-use borrow.Author.Rules.{rules}
 use Rattle.costs.proofs.line.values_of.Goals as goal
 
 pub returns-in-Rate : goal.returns-in-Rate

@@ -1,7 +1,6 @@
 -- `line_before` meets its contract: the classes decide, or within a class the rates or the cents. Assumes nothing.
 use native.Mathlib.Omega.{arith}
 use Rattle.costs.proofs.Costs.{line_lower, line_higher, line_rates, line_cents}
-use borrow.Author.Rules.{rules}
 use Rattle.costs.proofs.order.line_before.Goals as goal
 
 pub returns-then-class_a-class_b : goal.returns-then-class_a-class_b

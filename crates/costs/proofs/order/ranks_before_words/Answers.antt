@@ -1,7 +1,6 @@
 -- `ranks_before_words` meets its contract. Assumes nothing.
 use native.Mathlib.Omega.{arith}
 use Rattle.costs.proofs.Costs.{by_words}
-use borrow.Author.Rules.{rules}
 use Rattle.costs.proofs.order.ranks_before_words.Goals as goal
 
 pub line_before-requires : goal.line_before-requires

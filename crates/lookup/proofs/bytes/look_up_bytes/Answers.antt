@@ -9,7 +9,6 @@ use Rattle.lookup.specs.Lookup.{refused, says_of, look_up, packed}
 use Rattle.lookup.specs.Bytes.{words}
 use Rattle.lookup.proofs.Reading.{Stands, small_standing, past_base, block_lent, goes_on_lem}
 use Rattle.lookup.proofs.Words.{length-words, Whole, answers_words, words_stand, bytes_stop}
-use borrow.Author.Rules.{rules}
 use Rattle.lookup.proofs.bytes.look_up_bytes.Goals as goal
 
 pub refusal-requires : goal.refusal-requires

@@ -10,7 +10,6 @@ use Rattle.lookup.specs.Lookup.{packed, verdict_of}
 use Rattle.lookup.specs.Bytes.{words}
 use Rattle.lookup.proofs.Answers.{decides, hands_on, not-lent}
 use Rattle.lookup.proofs.Words.{length-words}
-use borrow.Author.Rules.{rules}
 use Rattle.std.proofs.Common.{ap, not}
 use Rattle.lookup.proofs.bytes.says_bytes.Goals as goal
 

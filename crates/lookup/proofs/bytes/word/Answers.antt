@@ -2,7 +2,6 @@
 use mathlib.Core.Path.{sym, ◌∙◌}
 use native.Mathlib.Omega.{arith}
 use Rattle.lookup.proofs.Words.{get_d_words}
-use borrow.Author.Rules.{rules}
 use Rattle.lookup.proofs.bytes.word.Goals as goal
 
 pub returns : goal.returns

@@ -5,7 +5,6 @@ use Rattle.ground.proofs.Tests.{says, denies, cond_on, cond_off}
 use Rattle.cells.specs.Cells.{hop_of, length_of}
 use Rattle.cells.proofs.Direct.{Direct, is_direct?}
 use Rattle.lookup.specs.Lookup.{refused, found, packed}
-use borrow.Author.Rules.{rules}
 use Rattle.lookup.proofs.look.direct_or_damage.Goals as goal
 
 pub route-requires : goal.route-requires

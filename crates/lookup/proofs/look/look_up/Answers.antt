@@ -7,7 +7,6 @@ use Rattle.prefix.specs.Geometry.{block_size, block_of}
 use Rattle.lookup.specs.Lookup.{refused, says_of, look_up, packed}
 use Rattle.lookup.proofs.Reading.{Stands, stands, past_base, block_lent, goes_on_lem, stops_at}
 use Rattle.lookup.proofs.Answers.{as_refused, by_low, told_says, unpacked}
-use borrow.Author.Rules.{rules}
 use Rattle.lookup.proofs.look.look_up.Goals as goal
 
 pub returns-then-code-ne0 : goal.returns-then-code-ne0

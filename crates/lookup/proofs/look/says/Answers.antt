@@ -8,7 +8,6 @@ use Rattle.prefix.specs.Geometry.{block_size}
 use Rattle.cells.specs.Cells.{pointer_bit, segment_of}
 use Rattle.lookup.specs.Lookup.{verdict_of, packed}
 use Rattle.lookup.proofs.Answers.{decides, hands_on, not-lent}
-use borrow.Author.Rules.{rules}
 use Rattle.std.proofs.Common.{ap, not}
 use Rattle.lookup.proofs.look.says.Goals as goal
 

@@ -10,7 +10,6 @@ use Rattle.prefix.proofs.Spans.{few_blocks}
 use Rattle.prefix.proofs.Inside.{below_blocks, is_inside}
 use Rattle.lookup.specs.inner.Standing.{standing_of}
 use Rattle.lookup.proofs.Reading.{LentBy, lent_by?}
-use borrow.Author.Rules.{rules}
 use Rattle.lookup.proofs.look.standing.Goals as goal
 
 pub returns-then-length-gt-WIDTH : goal.returns-then-length-gt-WIDTH

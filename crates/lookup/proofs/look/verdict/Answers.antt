@@ -4,7 +4,6 @@ use native.Mathlib.Omega.{arith}
 use Rattle.ground.proofs.Tests.{eqb?, cond_on, cond_off}
 use Rattle.cells.specs.Cells.{empty}
 use Rattle.lookup.specs.Lookup.{verdict_of, packed}
-use borrow.Author.Rules.{rules}
 use Rattle.lookup.proofs.look.verdict.Goals as goal
 
 pub returns-then-cell-eq-EMPTY : goal.returns-then-cell-eq-EMPTY

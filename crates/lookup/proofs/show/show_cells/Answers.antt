@@ -9,7 +9,6 @@ use Rattle.cells.specs.Cells.{pointer_bit, segment_of}
 use Rattle.lookup.specs.Show.{seen, part, first_cell, show_code}
 use Rattle.lookup.proofs.Reading.{past_base, block_lent}
 use Rattle.lookup.proofs.Showing.{Shows, shows, segment_lent, shown_none, shown_cell, shown_segment, part_on}
-use borrow.Author.Rules.{rules}
 use Rattle.std.proofs.Common.{ap, not}
 use Rattle.lookup.proofs.show.show_cells.Goals as goal
 

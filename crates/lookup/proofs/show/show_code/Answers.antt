@@ -10,7 +10,6 @@ use Rattle.cells.specs.Cells.{pointer_bit, segment_of}
 use Rattle.lookup.specs.Show.{first_cell, show_code}
 use Rattle.lookup.proofs.Reading.{Stands, stands, past_base, block_lent, stops_at}
 use Rattle.lookup.proofs.Showing.{refuses, accepts}
-use borrow.Author.Rules.{rules}
 use Rattle.std.proofs.Common.{ap, not}
 use Rattle.lookup.proofs.show.show_code.Goals as goal
 

@@ -1,5 +1,5 @@
 -- `records::big_endian::put_u32` meets its contract: four stores are the run of stores. Assumes nothing.
-use Rattle.std.proofs.Common.{arith, length-set, rules}
+use Rattle.std.proofs.Common.{arith, length-set}
 use Rattle.records.proofs.Laws.{four_stored}
 use Rattle.records.proofs.big_endian.put_u32.Goals as goal
 

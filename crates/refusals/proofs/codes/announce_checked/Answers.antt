@@ -6,7 +6,6 @@ use Prim.Native.Nat.{◌<◌}
 use native.Mathlib.Omega.{arith}
 use lib.Dec.{ltb}
 use lib.ListN.{length, get_or}
-use borrow.Author.Tests.{not-true, not-false}
 use Rattle.ground.proofs.Tests.{says, passes, stops}
 use Rattle.prefix.specs.declared.geometry.Blocks.{Blocks}
 use Rattle.prefix.specs.Geometry.{width}
@@ -21,7 +20,6 @@ use Rattle.rules.specs.Rules.{routes, is_live}
 use Rattle.refusals.specs.Codes.{tested, unless_room, code}
 use Rattle.refusals.specs.inner.Checks.{Learnt, never}
 use Rattle.refusals.proofs.Refusing.{refused_is, learnt_as, stays, goes_on_lem, let_pass, full, by_room}
-use borrow.Author.Rules.{rules}
 use Rattle.refusals.proofs.codes.announce_checked.Goals as goal
 
 pub tests-checked-requires : goal.tests-checked-requires

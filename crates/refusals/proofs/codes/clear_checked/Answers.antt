@@ -2,7 +2,6 @@
 use mathlib.Core.Path.{sym, ap, ◌∙◌}
 use mathlib.Core.Bool.{Bool, cond, not}
 use Rattle.refusals.specs.Codes.{clear_code}
-use borrow.Author.Rules.{rules}
 use Rattle.refusals.proofs.codes.clear_checked.Goals as goal
 
 pub returns-then-lent : goal.returns-then-lent

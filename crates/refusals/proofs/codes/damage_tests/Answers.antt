@@ -16,7 +16,6 @@ use Rattle.damage.specs.inner.Walk.{sound_run, BlocksLent}
 use Rattle.damage.proofs.Soundness.{sound_run?, undamaged?}
 use Rattle.damage.proofs.Turns.{touched-lent}
 use Rattle.refusals.proofs.Refusing.{by_damage, refused_is}
-use borrow.Author.Rules.{rules}
 use Rattle.std.proofs.Common.{ap, not}
 use Rattle.refusals.proofs.codes.damage_tests.Goals as goal
 

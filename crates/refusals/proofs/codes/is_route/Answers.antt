@@ -4,7 +4,6 @@ use native.Mathlib.Omega.{arith}
 use Rattle.ground.proofs.Tests.{iff?, stops, same_test}
 use Rattle.prefix.proofs.Prefixes.{well_formed?}
 use Rattle.prefix.proofs.Best.{is_route?}
-use borrow.Author.Rules.{rules}
 use Rattle.refusals.proofs.codes.is_route.Goals as goal
 
 pub returns-then-hop-lt1 : goal.returns-then-hop-lt1

@@ -8,7 +8,6 @@ use Rattle.cells.specs.Memory.{lent_of, needs_segment}
 use Rattle.rules.specs.Rules.{routes, is_live}
 use Rattle.refusals.specs.Codes.{tested, unless_live}
 use Rattle.refusals.proofs.Refusing.{refused_is, learnt_as, stays, goes_on_lem, let_pass, by_live, live_needs_none}
-use borrow.Author.Rules.{rules}
 use Rattle.refusals.proofs.codes.live_tests.Goals as goal
 
 pub returns-then-checked-ne0 : goal.returns-then-checked-ne0

@@ -5,7 +5,6 @@ use Rattle.prefix.specs.Routes.{puts, is_change}
 use Rattle.prefix.proofs.Best.{is_route?}
 use Rattle.rules.specs.Words.{route_by}
 use Rattle.refusals.specs.Codes.{code}
-use borrow.Author.Rules.{rules}
 use Rattle.refusals.proofs.codes.re_home_checked.Goals as goal
 
 pub live_tests-requires : goal.live_tests-requires

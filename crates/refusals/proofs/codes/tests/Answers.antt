@@ -1,7 +1,6 @@
 -- `codes::tests` meets its contract: each way out is the answer of the tests up to there. Assumes nothing.
 use mathlib.Core.Path.{◌≡◌, refl, sym, ◌∙◌}
 use native.Mathlib.Omega.{arith}
-use borrow.Author.Tests.{not-true, not-false}
 use Rattle.ground.proofs.Tests.{if_so}
 use Rattle.prefix.specs.Prefixes.{Encloses}
 use Rattle.prefix.proofs.Prefixes.{encloses?}
@@ -9,7 +8,6 @@ use Rattle.cells.specs.Memory.{lent_of, IsLent}
 use Rattle.cells.proofs.Lending.{is_lent?}
 use Rattle.refusals.specs.Codes.{tested}
 use Rattle.refusals.proofs.Refusing.{by_tests, refused_is, learnt_as}
-use borrow.Author.Rules.{rules}
 use Rattle.std.proofs.Common.{ap, not}
 use Rattle.refusals.proofs.codes.tests.Goals as goal
 

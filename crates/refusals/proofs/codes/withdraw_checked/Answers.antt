@@ -4,7 +4,6 @@ use Rattle.ground.proofs.Tests.{says}
 use Rattle.prefix.specs.Routes.{takes, is_change}
 use Rattle.prefix.proofs.Prefixes.{well_formed?}
 use Rattle.refusals.specs.Codes.{code}
-use borrow.Author.Rules.{rules}
 use Rattle.refusals.proofs.codes.withdraw_checked.Goals as goal
 
 pub live_tests-requires : goal.live_tests-requires

@@ -1,5 +1,4 @@
 -- `blocks::cursor_at` meets its contract: before the shortest prefix of the address stand the rules of lower addresses. Assumes nothing.
-use borrow.Author.Rules.{rules}
 use Rattle.rules.proofs.Cursor.{cursor_from}
 use Rattle.rules.proofs.blocks.cursor_at.Goals as goal
 

@@ -1,6 +1,5 @@
 -- `blocks::is_open` meets its contract: past the rules of the block the cursor knows whether one opens it. Assumes nothing.
 use native.Mathlib.Omega.{arith}
-use borrow.Author.Rules.{rules}
 use Rattle.rules.proofs.blocks.is_open.Goals as goal
 
 pub pass-passed-requires : goal.pass-passed-requires

@@ -1,10 +1,9 @@
 -- The goals that the check leaves.
 use mathlib.Core.Path.{sym, ap, subst}
 use mathlib.Core.Bool.{◌||◌}
-use Prim.Native.Nat.{ℕ, ◌+◌, ◌-◌}
+use Prim.Native.Nat.{ℕ, ◌+◌}
 use native.Mathlib.Omega.{arith}
 use lib.Dec.{ltb}
-use borrow.Author.Rules.{rules}
 use Rattle.prefix.specs.Geometry.{width}
 use Rattle.rules.proofs.Indices.{listed_within}
 use Rattle.rules.proofs.Cursor.{Passing, passing_start, passing_more, passing_met}

@@ -1,14 +1,7 @@
 -- `blocks::pass` meets its contract. The invariant is `Passing`: the rules before i have an address below the block's end, and `opened`
 -- says whether one of those that were passed is longer than 24. Assumes nothing.
-use mathlib.Core.Path.{sym, ap, subst}
-use mathlib.Core.Bool.{◌||◌}
-use Prim.Native.Nat.{ℕ, ◌+◌, ◌-◌}
-use native.Mathlib.Omega.{arith}
-use lib.Dec.{ltb}
-use borrow.Author.Rules.{rules}
-use Rattle.prefix.specs.Geometry.{width}
-use Rattle.rules.proofs.Indices.{listed_within}
-use Rattle.rules.proofs.Cursor.{Passing, passing_start, passing_more, passing_met}
+use Prim.Native.Nat.{◌-◌}
+use Rattle.rules.proofs.Cursor.{Passing}
 use Rattle.rules.proofs.blocks.pass.Given as goal
 
 abbrev pub invariant-loop-i : goal.invariant-loop-i

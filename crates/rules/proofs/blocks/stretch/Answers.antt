@@ -4,7 +4,6 @@ use native.Mathlib.Omega.{arith}
 use Rattle.rules.proofs.Indices.{listed_within}
 use Rattle.prefix.specs.Geometry.{block_size}
 use Rattle.rules.proofs.Cursor.{stretch_to}
-use borrow.Author.Rules.{rules}
 use Rattle.rules.proofs.blocks.stretch.Goals as goal
 
 pub returns-then-at-used : goal.returns-then-at-used

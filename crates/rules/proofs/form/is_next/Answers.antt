@@ -2,7 +2,6 @@
 use native.Mathlib.Omega.{arith}
 use borrow.Author.Tests.{le-leb, lt-leb}
 use Rattle.rules.specs.Words.{prefix_of, key_of}
-use borrow.Author.Rules.{rules}
 use Rattle.rules.proofs.form.is_next.Goals as goal
 
 pub returns-then-key-low : goal.returns-then-key-low

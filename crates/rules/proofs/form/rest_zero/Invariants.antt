@@ -1,14 +1,11 @@
 -- `form::rest_zero` meets its contract. The invariant: the test of all words from `from` on is that of the words from i on.
 -- Assumes nothing.
-use mathlib.Core.Path.{◌≡◌, sym, ap, ◌∙◌}
+use mathlib.Core.Path.{◌≡◌}
 use mathlib.Core.List.{List}
 use Prim.Native.Nat.{ℕ, ◌-◌, ◌≤◌}
-use native.Mathlib.Omega.{arith}
 use lib.Dec.{eqb}
 use lib.ListN.{length, drop}
-use borrow.Author.Rules.{rules}
 use Rattle.rules.specs.Rules.{every}
-use Rattle.rules.proofs.FormTests.{zeros_more, zeros_stop, zeros_end}
 use Rattle.rules.proofs.form.rest_zero.Given as goal
 
 -- the test of the words from `from` on is that of the words from i on

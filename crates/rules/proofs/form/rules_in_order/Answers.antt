@@ -1,13 +1,11 @@
 -- The goals that the check leaves.
 use mathlib.Core.Path.{sym, ◌∙◌}
-use Prim.Native.Nat.{ℕ, ◌-◌}
+use Prim.Native.Nat.{ℕ}
 use native.Mathlib.Omega.{arith}
-use lib.ListN.{length, get_or}
-use borrow.Author.Rules.{rules}
-use borrow.Author.Tests.{not-true, not-false}
+use lib.ListN.{get_or}
 use Rattle.ground.proofs.Tests.{says, denies}
 use Rattle.rules.proofs.Words.{word_room}
-use Rattle.rules.proofs.Counts.{OrderedTo, ordered_none, next?, ordered_more, counted_stop, counted_all}
+use Rattle.rules.proofs.Counts.{ordered_none, next?, ordered_more, counted_stop, counted_all}
 use Rattle.rules.proofs.form.rules_in_order.Goals as goal
 
 pub loop-i-init : goal.loop-i-init

@@ -1,9 +1,6 @@
 -- The goals that the check leaves.
-use Prim.Native.Nat.{◌-◌}
 use native.Mathlib.Omega.{arith}
-use borrow.Author.Rules.{rules}
 use Rattle.rules.proofs.Indices.{listed_within}
-use Rattle.rules.specs.inner.Places.{Bracket}
 use Rattle.rules.proofs.Searches.{bracket_up, bracket_down, bracket_met}
 use Rattle.rules.proofs.list.between.Goals as goal
 

@@ -1,11 +1,7 @@
 -- `list::between` meets its contract. The invariant is `Bracket`: low and high bracket the answer. The measure is high - low.
 -- Assumes nothing.
 use Prim.Native.Nat.{◌-◌}
-use native.Mathlib.Omega.{arith}
-use borrow.Author.Rules.{rules}
-use Rattle.rules.proofs.Indices.{listed_within}
 use Rattle.rules.specs.inner.Places.{Bracket}
-use Rattle.rules.proofs.Searches.{bracket_up, bracket_down, bracket_met}
 use Rattle.rules.proofs.list.between.Given as goal
 
 abbrev pub invariant-loop-low : goal.invariant-loop-low

@@ -3,7 +3,6 @@
 use native.Mathlib.Omega.{arith}
 use Rattle.rules.proofs.Indices.{listed_within}
 use Rattle.rules.proofs.Searches.{place_past, place_within}
-use borrow.Author.Rules.{rules}
 use Rattle.rules.proofs.list.find.Goals as goal
 
 pub returns-then-at-used : goal.returns-then-at-used

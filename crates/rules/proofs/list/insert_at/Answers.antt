@@ -3,8 +3,7 @@ use mathlib.Core.Path.{◌≡◌, sym, subst}
 use mathlib.Core.List.{List}
 use Prim.Native.Nat.{ℕ}
 use native.Mathlib.Omega.{arith}
-use lib.ListN.{length-set, set}
-use borrow.Author.Rules.{rules}
+use lib.ListN.{set}
 use Rattle.rules.proofs.Shifts.{Raised, raised_none, raised_more, raised_put}
 use Rattle.rules.proofs.list.insert_at.Goals as goal
 

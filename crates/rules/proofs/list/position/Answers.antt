@@ -1,5 +1,4 @@
 -- `list::position` meets its contract: the whole list brackets the answer. Assumes nothing.
-use borrow.Author.Rules.{rules}
 use Rattle.rules.proofs.Searches.{bracket_start}
 use Rattle.rules.proofs.list.position.Goals as goal
 

@@ -1,8 +1,6 @@
 -- The goals that the check leaves.
-use Prim.Native.Nat.{◌-◌, ◌≤◌}
+use Prim.Native.Nat.{◌-◌}
 use native.Mathlib.Omega.{arith}
-use borrow.Author.Rules.{rules}
-use Rattle.rules.specs.inner.Places.{Bracket}
 use Rattle.rules.proofs.Indices.{listed_within}
 use Rattle.rules.proofs.Searches.{bracket_up, bracket_down}
 use Rattle.rules.proofs.list.position_before.Goals as goal

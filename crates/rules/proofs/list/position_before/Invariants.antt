@@ -1,11 +1,7 @@
 -- `list::position_before` meets its contract. The invariant: 0 and high bracket the answer, and the stride is not 0. The measure is high.
 -- Assumes nothing.
-use Prim.Native.Nat.{◌-◌, ◌≤◌}
-use native.Mathlib.Omega.{arith}
-use borrow.Author.Rules.{rules}
+use Prim.Native.Nat.{◌≤◌}
 use Rattle.rules.specs.inner.Places.{Bracket}
-use Rattle.rules.proofs.Indices.{listed_within}
-use Rattle.rules.proofs.Searches.{bracket_up, bracket_down}
 use Rattle.rules.proofs.list.position_before.Given as goal
 
 abbrev pub invariant-loop-stride : goal.invariant-loop-stride

@@ -4,7 +4,6 @@ use mathlib.Core.Path.{ap, ◌∙◌}
 use Prim.Native.Nat.{ℕ}
 use native.Mathlib.Omega.{arith}
 use lib.ListN.{set}
-use borrow.Author.Rules.{rules}
 use Rattle.rules.specs.inner.Places.{inserted_at}
 use Rattle.rules.proofs.Indices.{listed_within}
 use Rattle.rules.proofs.Changes.{place_live, put_same, put_new}

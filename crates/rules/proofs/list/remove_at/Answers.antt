@@ -1,11 +1,10 @@
 -- The goals that the check leaves.
 use mathlib.Core.Path.{◌≡◌, sym, subst}
 use mathlib.Core.List.{List}
-use Prim.Native.Nat.{ℕ, ◌-◌}
+use Prim.Native.Nat.{ℕ}
 use native.Mathlib.Omega.{arith}
-use lib.ListN.{length-set, set}
-use borrow.Author.Rules.{rules}
-use Rattle.rules.proofs.Shifts.{Lowered, lowered_none, lowered_more, lowered_end}
+use lib.ListN.{set}
+use Rattle.rules.proofs.Shifts.{lowered_none, lowered_more, lowered_end}
 use Rattle.rules.proofs.list.remove_at.Goals as goal
 
 -- the same list by a store at an equal place

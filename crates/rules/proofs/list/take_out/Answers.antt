@@ -1,7 +1,6 @@
 -- `list::take_out` meets its contract: the word of a live prefix is at the place, and no other has its key. Assumes nothing.
 use mathlib.Core.Path.{◌≡◌, ◌∙◌}
 use native.Mathlib.Omega.{arith}
-use borrow.Author.Rules.{rules}
 use Rattle.rules.specs.inner.Places.{removed_at}
 use Rattle.rules.proofs.Indices.{listed_within}
 use Rattle.rules.proofs.Changes.{place_live, taken_out}

@@ -1,7 +1,6 @@
 -- `runs::onward::asked` meets its contract: it searches anew, or the cell holds again up to the next start or the end of its prefix.
 -- Assumes nothing.
 use native.Mathlib.Omega.{arith}
-use borrow.Author.Rules.{rules}
 use borrow.Author.Tests.{not-false}
 use Rattle.runs.proofs.Covered.{run_on}
 use Rattle.runs.proofs.onward.asked.Goals as goal

@@ -1,12 +1,11 @@
 -- The goals that the check leaves.
 use mathlib.Core.Path.{sym, ap, ◌∙◌}
-use Prim.Native.Nat.{◌-◌}
 use native.Mathlib.Omega.{arith}
 use Rattle.ground.proofs.Tests.{denies}
 use Rattle.prefix.specs.declared.Prefix.{Prefix}
 use Rattle.prefix.proofs.Prefixes.{contains?, contains_of}
 use Rattle.rules.proofs.Indices.{listed_within, listed_short}
-use Rattle.runs.proofs.Covered.{Skipping, skip_start, skip_met, skip_more, skip_later, skip_done}
+use Rattle.runs.proofs.Covered.{skip_start, skip_met, skip_more, skip_later, skip_done}
 use Rattle.runs.proofs.onward.skip_ended.Goals as goal
 
 pub loop-i-init : goal.loop-i-init

@@ -1,9 +1,6 @@
 -- The goals that the check leaves.
-use Prim.Native.Nat.{◌-◌}
 use native.Mathlib.Omega.{arith}
-use lib.ListN.{length}
-use borrow.Author.Rules.{rules}
-use Rattle.stream.proofs.Counting.{Counted, counted_none, counted_more, counted_all}
+use Rattle.stream.proofs.Counting.{counted_none, counted_more, counted_all}
 use Rattle.stream.proofs.counts.open_segments.Goals as goal
 
 pub loop-i-init : goal.loop-i-init

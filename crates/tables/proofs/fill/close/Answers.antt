@@ -1,7 +1,6 @@
 -- `fill::close` meets its contract: one run of 0 is the whole segment. Assumes nothing.
 use mathlib.Core.Path.{refl}
 use native.Mathlib.Omega.{arith}
-use borrow.Author.Rules.{rules}
 use Rattle.ground.proofs.Lists.{differs_small}
 use Rattle.tables.proofs.Ranges.{run_small}
 use Rattle.tables.proofs.Blocks.{segment_within}

@@ -1,10 +1,8 @@
 -- The goals that the check leaves.
 use mathlib.Core.Path.{refl}
-use Prim.Native.Nat.{◌-◌}
 use native.Mathlib.Omega.{arith}
-use borrow.Author.Rules.{rules}
 use Rattle.ground.proofs.Lists.{differs_small}
-use Rattle.tables.proofs.Ranges.{Reached, start, turn, finish}
+use Rattle.tables.proofs.Ranges.{start, turn, finish}
 use Rattle.tables.proofs.fill.fill_run.Goals as goal
 
 pub loop-i-init : goal.loop-i-init

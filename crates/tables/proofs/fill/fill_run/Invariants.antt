@@ -1,11 +1,7 @@
 -- `fill::fill_run` meets its contract. The loop's invariant: the cells before i have the value, and `changed` of them differ. The measure is
 -- what is left of the run. Assumes nothing.
-use mathlib.Core.Path.{refl}
 use Prim.Native.Nat.{◌-◌}
-use native.Mathlib.Omega.{arith}
-use borrow.Author.Rules.{rules}
-use Rattle.ground.proofs.Lists.{differs_small}
-use Rattle.tables.proofs.Ranges.{Reached, start, turn, finish}
+use Rattle.tables.proofs.Ranges.{Reached}
 use Rattle.tables.proofs.fill.fill_run.Given as goal
 
 abbrev pub invariant-loop-i : goal.invariant-loop-i

@@ -1,7 +1,6 @@
 -- `fill::open_and_paint` meets its contract: the segment filled with the block's former cell, and in the prefix's run with that cell painted,
 -- is the segment opened and then painted. Assumes nothing.
 use native.Mathlib.Omega.{arith}
-use borrow.Author.Rules.{rules}
 use Rattle.tables.specs.inner.Ranges.{InSegment}
 use Rattle.tables.proofs.Ranges.{run_small}
 use Rattle.tables.proofs.Opening.{block_in, run_in_segment, opened_and_changed}

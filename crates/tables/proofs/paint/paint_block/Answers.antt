@@ -3,7 +3,6 @@
 use mathlib.Core.Path.{sym, ◌∙◌}
 use native.Mathlib.Omega.{arith}
 use borrow.Author.Tests.{leb-true, leb-false}
-use borrow.Author.Rules.{rules}
 use Rattle.cells.specs.Memory.{tables_of}
 use Rattle.tables.specs.inner.Ready.{segment_at, Owns}
 use Rattle.tables.proofs.Blocks.{block_direct, block_points, owns_one, segment_within}

@@ -1,12 +1,7 @@
 -- The goals that the check leaves.
-use Prim.Native.Nat.{◌-◌, ◌≤◌}
 use native.Mathlib.Nat.{le_antisymm}
 use native.Mathlib.Omega.{arith}
-use borrow.Author.Rules.{rules}
-use Rattle.tables.specs.Cellwise.{paint_cell}
-use Rattle.tables.specs.inner.Ranges.{BlocksChanged}
-use Rattle.cells.specs.Memory.{tables_of}
-use Rattle.tables.proofs.Blocks.{blocks_none, few_blocks, blocks_then, ready_then, same_firsts, same_longs}
+use Rattle.tables.proofs.Blocks.{blocks_none, few_blocks, blocks_then, ready_then}
 use Rattle.tables.proofs.paint.paint_blocks.Goals as goal
 
 pub loop-block-init : goal.loop-block-init

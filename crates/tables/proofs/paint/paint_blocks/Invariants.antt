@@ -1,13 +1,9 @@
 -- `paint::paint_blocks` meets its contract. The loop's invariant: the blocks before `block` are painted, and `changed` of their cells differ.
 -- The measure is what is left of the blocks. Assumes nothing.
 use Prim.Native.Nat.{◌-◌, ◌≤◌}
-use native.Mathlib.Nat.{le_antisymm}
-use native.Mathlib.Omega.{arith}
-use borrow.Author.Rules.{rules}
 use Rattle.tables.specs.Cellwise.{paint_cell}
 use Rattle.tables.specs.inner.Ranges.{BlocksChanged}
 use Rattle.cells.specs.Memory.{tables_of}
-use Rattle.tables.proofs.Blocks.{blocks_none, few_blocks, blocks_then, ready_then, same_firsts, same_longs}
 use Rattle.tables.proofs.paint.paint_blocks.Given as goal
 
 abbrev pub invariant-loop-block : goal.invariant-loop-block

@@ -3,7 +3,6 @@
 use mathlib.Core.Path.{sym}
 use mathlib.Core.Logic.{inl, inr, ⊎_elim}
 use native.Mathlib.Omega.{arith}
-use borrow.Author.Rules.{rules}
 use Rattle.tables.proofs.Cellwise.{paint_on, paint_off}
 use Rattle.tables.proofs.paint.paint_cell.Goals as goal
 

@@ -1,10 +1,7 @@
 -- The goals that the check leaves.
-use Prim.Native.Nat.{◌-◌}
 use native.Mathlib.Omega.{arith}
-use borrow.Author.Rules.{rules}
 use Rattle.ground.proofs.Lists.{differs_small}
-use Rattle.tables.specs.Cellwise.{paint_cell}
-use Rattle.tables.proofs.Ranges.{Reached, start, turn, finish}
+use Rattle.tables.proofs.Ranges.{start, turn, finish}
 use Rattle.tables.proofs.paint.paint_run.Goals as goal
 
 pub loop-i-init : goal.loop-i-init

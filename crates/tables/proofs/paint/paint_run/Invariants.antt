@@ -1,11 +1,8 @@
 -- `paint::paint_run` meets its contract. The loop's invariant: the cells before i are painted, and `changed` of them differ. The measure is
 -- what is left of the run. Assumes nothing.
 use Prim.Native.Nat.{◌-◌}
-use native.Mathlib.Omega.{arith}
-use borrow.Author.Rules.{rules}
-use Rattle.ground.proofs.Lists.{differs_small}
 use Rattle.tables.specs.Cellwise.{paint_cell}
-use Rattle.tables.proofs.Ranges.{Reached, start, turn, finish}
+use Rattle.tables.proofs.Ranges.{Reached}
 use Rattle.tables.proofs.paint.paint_run.Given as goal
 
 abbrev pub invariant-loop-i : goal.invariant-loop-i

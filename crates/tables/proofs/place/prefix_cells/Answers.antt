@@ -2,7 +2,6 @@
 use Prim.Native.Nat.{◌-◌}
 use native.Mathlib.Omega.{arith}
 use lib.Pow.{pow_mono}
-use borrow.Author.Rules.{rules}
 use Rattle.tables.proofs.place.prefix_cells.Goals as goal
 
 pub overflow_add-to : goal.overflow_add-to

@@ -3,11 +3,9 @@
 use mathlib.Core.Path.{sym, ap, ◌∙◌}
 use native.Mathlib.Omega.{arith}
 use Rattle.prefix.specs.declared.geometry.Blocks.{Blocks}
-use Rattle.prefix.specs.Routes.{Route}
-use Rattle.cells.specs.Memory.{Tables, tables_of}
+use Rattle.cells.specs.Memory.{tables_of}
 use Rattle.rules.specs.Words.{route_by}
 use Rattle.updates.proofs.Putting.{openable, repaintable, painted-opened, painted_direct}
-use borrow.Author.Rules.{rules}
 use Rattle.updates.proofs.put.paint_route.Goals as goal
 
 pub pack-new-requires : goal.pack-new-requires

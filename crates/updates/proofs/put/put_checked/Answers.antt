@@ -3,12 +3,11 @@
 use mathlib.Core.Path.{◌≡◌}
 use native.Mathlib.Omega.{arith}
 use Rattle.prefix.specs.Routes.{puts}
-use Rattle.cells.specs.Memory.{Lent, lent_of}
+use Rattle.cells.specs.Memory.{lent_of}
 use Rattle.rules.specs.Words.{route_by}
 use Rattle.updates.specs.Effects.{effect, retabled}
 use Rattle.updates.specs.inner.Steps.{Puttable}
 use Rattle.updates.proofs.Outcomes.{refuses, accepts}
-use borrow.Author.Rules.{rules}
 use Rattle.updates.proofs.put.put_checked.Goals as goal
 
 pub returns-then-checked-ne0 : goal.returns-then-checked-ne0

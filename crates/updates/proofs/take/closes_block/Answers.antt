@@ -5,7 +5,6 @@ use mathlib.Core.Bool.{not}
 use native.Mathlib.Omega.{arith}
 use Rattle.ground.proofs.Tests.{ltb?, passes, stops}
 use Rattle.prefix.specs.Geometry.{width}
-use borrow.Author.Rules.{rules}
 use Rattle.updates.proofs.take.closes_block.Goals as goal
 
 pub returns-then-length-le-WIDTH : goal.returns-then-length-le-WIDTH

@@ -4,13 +4,12 @@ use mathlib.Core.Path.{◌≡◌, ap, ◌∙◌}
 use mathlib.Core.List.{List}
 use native.Mathlib.Omega.{arith}
 use Rattle.prefix.specs.Routes.{Route, takes}
-use Rattle.cells.specs.Memory.{Lent, lent_of}
-use Rattle.tables.specs.Changes.{left, leaves}
+use Rattle.cells.specs.Memory.{lent_of}
+use Rattle.tables.specs.Changes.{leaves}
 use Rattle.updates.specs.Effects.{effect, retabled, unpainted}
 use Rattle.updates.specs.inner.Steps.{Takable}
 use Rattle.updates.proofs.Taking.{left-count, left_listed, left-routes}
 use Rattle.updates.proofs.Outcomes.{refuses, accepts}
-use borrow.Author.Rules.{rules}
 use Rattle.updates.proofs.take.take_checked.Goals as goal
 
 pub returns-then-checked-ne0 : goal.returns-then-checked-ne0

@@ -6,11 +6,9 @@ use Rattle.prefix.specs.declared.geometry.Blocks.{Blocks}
 use Rattle.prefix.specs.Geometry.{block_of}
 use Rattle.prefix.proofs.Prefixes.{in_range_lem}
 use Rattle.prefix.proofs.Spans.{aligned}
-use Rattle.cells.specs.Memory.{Tables, tables_of}
 use Rattle.rules.specs.Rules.{routes}
 use Rattle.tables.specs.Changes.{closes}
 use Rattle.updates.proofs.Taking.{closes_here, closable, unpainted_closed, unpainted_open}
-use borrow.Author.Rules.{rules}
 use Rattle.updates.proofs.take.unpaint_or_close.Goals as goal
 
 pub block_start-start-requires : goal.block_start-start-requires

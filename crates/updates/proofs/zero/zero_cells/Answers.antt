@@ -1,8 +1,6 @@
 -- The goals that the check leaves.
-use Prim.Native.Nat.{◌-◌}
 use native.Mathlib.Omega.{arith}
-use borrow.Author.Rules.{rules}
-use Rattle.updates.proofs.Zeros.{Zeroed, zeroed_none, zeroed_more, zeroed_all}
+use Rattle.updates.proofs.Zeros.{zeroed_none, zeroed_more, zeroed_all}
 use Rattle.updates.proofs.zero.zero_cells.Goals as goal
 
 pub loop-i-init : goal.loop-i-init

@@ -1,8 +1,6 @@
 -- `zero::zero_cells` meets its contract: the invariant is `Zeroed`. Assumes nothing.
 use Prim.Native.Nat.{◌-◌}
-use native.Mathlib.Omega.{arith}
-use borrow.Author.Rules.{rules}
-use Rattle.updates.proofs.Zeros.{Zeroed, zeroed_none, zeroed_more, zeroed_all}
+use Rattle.updates.proofs.Zeros.{Zeroed}
 use Rattle.updates.proofs.zero.zero_cells.Given as goal
 
 abbrev pub invariant-loop-i : goal.invariant-loop-i

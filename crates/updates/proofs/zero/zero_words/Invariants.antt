@@ -1,8 +1,6 @@
 -- `zero::zero_words` meets its contract: the invariant is `Zeroed`. Assumes nothing.
 use Prim.Native.Nat.{◌-◌}
-use native.Mathlib.Omega.{arith}
-use borrow.Author.Rules.{rules}
-use Rattle.updates.proofs.Zeros.{Zeroed, zeroed_none, zeroed_more, zeroed_all}
+use Rattle.updates.proofs.Zeros.{Zeroed}
 use Rattle.updates.proofs.zero.zero_words.Given as goal
 
 abbrev pub invariant-loop-i : goal.invariant-loop-i

@@ -3,7 +3,6 @@ use mathlib.Core.Path.{sym}
 use native.Mathlib.Omega.{arith}
 use Rattle.ground.proofs.Tests.{leb?, iff?, stops, same_test}
 use Rattle.cells.proofs.Direct.{is_direct?}
-use borrow.Author.Rules.{rules}
 use Rattle.cells.proofs.cell.Cell.is_direct.Goals as goal
 
 pub returns-then-hop-lt1 : goal.returns-then-hop-lt1

@@ -2,7 +2,6 @@
 -- territory contains its address. Assumes nothing.
 use mathlib.Core.Path.{sym}
 use native.Mathlib.Omega.{arith}
-use borrow.Author.Rules.{rules}
 use Rattle.ground.proofs.Tests.{stops}
 use Rattle.rules.proofs.Words.{is_rule?, rule_clear, rule_inside}
 use Rattle.rules.proofs.word.Rule.is_rule.Goals as goal

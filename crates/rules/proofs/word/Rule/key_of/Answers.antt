@@ -1,5 +1,4 @@
 -- `Rule::key_of` meets its contract, by the layout of a word. Assumes nothing.
-use borrow.Author.Rules.{rules}
 use Rattle.rules.proofs.Words.{key_is}
 use Rattle.rules.proofs.word.Rule.key_of.Goals as goal
 

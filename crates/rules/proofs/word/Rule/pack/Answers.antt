@@ -1,5 +1,4 @@
 -- `Rule::pack` meets its contract, by the layout of a word. Assumes nothing.
-use borrow.Author.Rules.{rules}
 use Rattle.rules.proofs.Words.{word_is}
 use Rattle.rules.proofs.word.Rule.pack.Goals as goal
 

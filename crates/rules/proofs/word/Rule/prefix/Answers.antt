@@ -1,5 +1,4 @@
 -- `Rule::prefix` meets its contract, field by field. Assumes nothing.
-use borrow.Author.Rules.{rules}
 use Rattle.rules.proofs.word.Rule.prefix.Goals as goal
 
 pub returns : goal.returns
