@@ -43,6 +43,7 @@ fn verdict_or_marked(word: u32) -> u32
 }
 
 // That in the territory, and refusal 3 outside it.
+#[tactic(auto, unfolding(crate::specs::inner::Passes::judged_of))]
 fn judged(base: u32, blocks: u32, address: u32, word: u32) -> u32
     ensures { result ≡ judged_of base blocks address word }
 {
@@ -70,8 +71,8 @@ fn places(base: u32, blocks: u32, addresses: &[u32], answers: &mut [u32])
 // The second pass: what stands there. Next to nothing waits for a read, so that as many as can be are under way at once; a pointer, which
 // is rare and foreseen to be none, is followed here.
 fn fetch(first: &[u32], long: &[u32], addresses: &[u32], answers: &mut [u32])
-    requires answers_len { length answers.old ≡ length addresses.now }
-    requires by_index { (i : ℕ) → i < length answers.old → get_or answers.old i 0 < length first.now }
+    requires sizes { length answers.old ≡ length addresses.now }
+    requires in_table { (i : ℕ) → i < length answers.old → get_or answers.old i 0 < length first.now }
     ensures { answers.new
         ≡ fetched_all first.now long.now addresses.now answers.old }
 {

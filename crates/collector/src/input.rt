@@ -3,8 +3,9 @@ ghost use Rattle.std.specs.Prelude.{◌≤◌, length};
 ghost use Rattle.collector.specs.Running.{FilledIs};
 
 use crate::failures;
-use libc::STDIN_FILENO;
 use records::Update;
+use std::io::Read;
+use std::rt::Clock;
 
 // What comes after the bytes that were read: other records; the rest of the last one, or nothing yet; the end of the input; nothing, since
 // a read failed.
@@ -24,24 +25,29 @@ pub struct Filled {
 }
 
 // One read, after the bytes that the buffer holds.
-fn read_more(buffer: &mut [u8], done: usize) -> Filled
+fn read_more<R: Input + Eprint + Clock + AllocGlobal>(
+    rt: &R,
+    buffer: &mut [u8],
+    done: usize,
+) -> Filled
     requires { done ≤ length buffer.old }
     ensures { FilledIs (length buffer.old) result }
 {
-    let got = libc::read(STDIN_FILENO, &mut buffer[done..]);
-    if got < 0 {
-        if failures::failed(b"collector: standard input") {
+    let more = match rt.reader().read(&mut buffer[done..]) {
+        Ok(more) => more,
+        Err(error) => {
+            if failures::failed(rt, "collector: standard input", error) {
+                return Filled {
+                    count: done,
+                    after: After::Failure,
+                };
+            }
             return Filled {
                 count: done,
-                after: After::Failure,
+                after: After::Rest,
             };
         }
-        return Filled {
-            count: done,
-            after: After::Rest,
-        };
-    }
-    let more = io::count(got, &buffer[done..]);
+    };
     if more == 0 {
         return Filled {
             count: done,
@@ -64,13 +70,13 @@ fn read_more(buffer: &mut [u8], done: usize) -> Filled
 // Reads until the buffer holds whole records and no part of one, the input ends or a read fails. So a record that is there is taken
 // at once, and is not kept waiting until the buffer is full. A proved loop has to end, and nothing says that the input comes: the loop
 // counts its turns down from a number that no run uses up.
-pub fn fill(buffer: &mut [u8]) -> Filled
+pub fn fill<R: Input + Eprint + Clock + AllocGlobal>(rt: &R, buffer: &mut [u8]) -> Filled
     ensures { FilledIs (length buffer.old) result }
 {
     let mut done = 0;
     let mut turns = u64::MAX;
     while turns > 0 {
-        let filled = read_more(buffer, done);
+        let filled = read_more(rt, buffer, done);
         let after = filled.after;
         match after {
             After::Rest => done = filled.count,

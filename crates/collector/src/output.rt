@@ -4,7 +4,9 @@ ghost use Rattle.std.specs.Prelude.{◌≤◌, ◌*◌, length};
 ghost use Rattle.io.specs.Counts.{IsPrefixLen};
 
 use crate::failures;
-use libc::STDOUT_FILENO;
+use io::decimal;
+use std::io::{Error, ErrorKind, Write, writer};
+use std::rt::Clock;
 
 // The numbers of the last line: the reading refusal that stopped the stream, 0 at a clean end; live prefixes; open segments. Where a read or
 // a write failed there is no such line.
@@ -24,30 +26,32 @@ struct Wrote {
 }
 
 // One write, of the text from `done` on.
-fn write_more(text: &[u8], done: usize) -> Wrote
+fn write_more<R: Print + Eprint + Clock + AllocGlobal>(rt: &R, text: &[u8], done: usize) -> Wrote
     requires { done ≤ length text.now }
     ensures { result.done ≤ length text.now }
 {
-    let put = libc::write(STDOUT_FILENO, &text[done..]);
-    if put <= 0 {
-        return Wrote {
-            done,
-            failed: failures::failed(b"collector: standard output"),
-        };
-    }
-    let more = io::count(put, &text[done..]);
+    let failure = match writer(rt).write(&text[done..]) {
+        Ok(0) => Error::from(ErrorKind::WriteZero),
+        Ok(more) => {
+            return Wrote {
+                done: done + more,
+                failed: false,
+            };
+        }
+        Err(error) => error,
+    };
     Wrote {
-        done: done + more,
-        failed: false,
+        done,
+        failed: failures::failed(rt, "collector: standard output", failure),
     }
 }
 
 // Writes a text to its end, and answers whether that went well; the loop's turns are counted as in `input::fill`.
-fn write_all(text: &[u8]) -> bool {
+fn write_all<R: Print + Eprint + Clock + AllocGlobal>(rt: &R, text: &[u8]) -> bool {
     let mut done = 0;
     let mut turns = u64::MAX;
     while turns > 0 {
-        let wrote = write_more(text, done);
+        let wrote = write_more(rt, text, done);
         if wrote.failed {
             return false;
         }
@@ -80,15 +84,20 @@ fn put_number(line: &mut [u8], at: usize, number: u64) -> usize
     ensures { IsPrefixLen result line.new }
 {
     let mut digits = [0u8; 20];
-    let count = io::decimal(number, &mut digits);
+    let count = decimal(number, &mut digits);
     put_text(line, at, &digits[..count])
 }
 
-pub fn print_header() -> bool {
-    write_all(b"serial code cells\n")
+pub fn print_header<R: Print + Eprint + Clock + AllocGlobal>(rt: &R) -> bool {
+    write_all(rt, b"serial code cells\n")
 }
 
-fn print_line(serial: u32, code: u32, cells: u32) -> bool {
+fn print_line<R: Print + Eprint + Clock + AllocGlobal>(
+    rt: &R,
+    serial: u32,
+    code: u32,
+    cells: u32,
+) -> bool {
     let mut line = [0u8; 64];
     let a = put_number(&mut line, 0, serial as u64);
     let b = put_text(&mut line, a, b" ");
@@ -96,17 +105,21 @@ fn print_line(serial: u32, code: u32, cells: u32) -> bool {
     let d = put_text(&mut line, c, b" ");
     let e = put_number(&mut line, d, cells as u64);
     let end = put_text(&mut line, e, b"\n");
-    write_all(&line[..end])
+    write_all(rt, &line[..end])
 }
 
 // Prints the lines of `count` records, of three words each: serial, number, cells.
-pub fn print_lines(lines: &[u32], count: usize) -> bool
+pub fn print_lines<R: Print + Eprint + Clock + AllocGlobal>(
+    rt: &R,
+    lines: &[u32],
+    count: usize,
+) -> bool
     requires { 3 * count ≤ length lines.now }
 {
     let mut i = 0;
     while i < count {
         let at = 3 * i;
-        if !print_line(lines[at], lines[at + 1], lines[at + 2]) {
+        if !print_line(rt, lines[at], lines[at + 1], lines[at + 2]) {
             return false;
         }
         i += 1;
@@ -114,7 +127,7 @@ pub fn print_lines(lines: &[u32], count: usize) -> bool
     true
 }
 
-pub fn print_last(last: Last) -> bool {
+pub fn print_last<R: Print + Eprint + Clock + AllocGlobal>(rt: &R, last: Last) -> bool {
     let mut line = [0u8; 96];
     let a = put_text(&mut line, 0, b"end ");
     let b = put_number(&mut line, a, last.code as u64);
@@ -123,5 +136,5 @@ pub fn print_last(last: Last) -> bool {
     let e = put_text(&mut line, d, b" open ");
     let f = put_number(&mut line, e, last.segments);
     let end = put_text(&mut line, f, b"\n");
-    write_all(&line[..end])
+    write_all(rt, &line[..end])
 }

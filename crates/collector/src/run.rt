@@ -8,6 +8,7 @@ use crate::output::Last;
 use crate::{input, output};
 use prefix::Prefix;
 use records::Update;
+use std::rt::Clock;
 use stream::{Step, counts};
 
 // 10.16.0.0/12.
@@ -58,7 +59,8 @@ fn next_of(step: Step, after: After) -> Next
 }
 
 // Reads some records, takes them and prints their lines. The buffer has room for 64.
-fn take_next(
+fn take_next<R: Input + Print + Eprint + Clock + AllocGlobal>(
+    rt: &R,
     first: &mut [u32],
     long: &mut [u32],
     owners: &mut [u32],
@@ -69,7 +71,7 @@ fn take_next(
 {
     let mut buffer = [0u8; 960];
     let mut lines = [0u32; 192];
-    let filled = input::fill(&mut buffer);
+    let filled = input::fill(rt, &mut buffer);
     let count = to_take(filled);
     let taken = stream::take_records(
         first,
@@ -81,7 +83,7 @@ fn take_next(
         expected,
         &mut lines,
     );
-    if !output::print_lines(&lines, taken.count) {
+    if !output::print_lines(rt, &lines, taken.count) {
         return Next::Fails;
     }
     let step = taken.step;
@@ -90,13 +92,19 @@ fn take_next(
 }
 
 // Takes records until the stream ends or something fails; the loop's turns are counted as in `input::fill`.
-fn take_stream(first: &mut [u32], long: &mut [u32], owners: &mut [u32], rules: &mut [u64]) -> Next
+fn take_stream<R: Input + Print + Eprint + Clock + AllocGlobal>(
+    rt: &R,
+    first: &mut [u32],
+    long: &mut [u32],
+    owners: &mut [u32],
+    rules: &mut [u64],
+) -> Next
     ensures { Handed 0 (lent_of first.old long.old owners.old rules.old) result (lent_of first.new long.new owners.new rules.new) }
 {
     let mut expected = 0;
     let mut turns = u64::MAX;
     while turns > 0 {
-        let next = take_next(first, long, owners, rules, expected);
+        let next = take_next(rt, first, long, owners, rules, expected);
         match next {
             Next::Expects(serial) => expected = serial,
             Next::Ends(code) => return Next::Ends(code),
@@ -134,12 +142,18 @@ fn last_of(next: Next, prefixes: u64, segments: u64) -> Last
 }
 
 // From cleared memory, the whole stream, and the numbers of the last line.
-pub fn run(first: &mut [u32], long: &mut [u32], owners: &mut [u32], rules: &mut [u64]) -> Last
+pub fn run<R: Input + Print + Eprint + Clock + AllocGlobal>(
+    rt: &R,
+    first: &mut [u32],
+    long: &mut [u32],
+    owners: &mut [u32],
+    rules: &mut [u64],
+) -> Last
     requires { IsLent site (lent_of first.old long.old owners.old rules.old) }
     ensures { LastIs (lent_of first.old long.old owners.old rules.old) result (lent_of first.new long.new owners.new rules.new) }
 {
     updates::clear(first, long, owners, rules, territory());
-    let next = take_stream(first, long, owners, rules);
+    let next = take_stream(rt, first, long, owners, rules);
     let prefixes = counts::live_prefixes(rules);
     let segments = counts::open_segments(owners);
     last_of(next, prefixes, segments)

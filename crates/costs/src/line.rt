@@ -32,6 +32,7 @@ pub(crate) fn rate(octets: u64, cents: u64) -> f64
 }
 
 // The line of a hop's two words.
+#[tactic(auto, unfolding(crate::specs::Lines::words_line))]
 fn line_of(octets: u64, cents: u64) -> Line
     ensures { result ≡ words_line octets cents }
 {

@@ -47,8 +47,8 @@ fn by_cents(x: u64, y: u64, a: u32, b: u32) -> bool
 
 // The line of a before the line of b, and at equal cost the lower number.
 fn line_before(octets_a: u64, cents_a: u64, octets_b: u64, cents_b: u64, a: u32, b: u32) -> bool
-    requires octets_a_le_most { (octets_a ≤ most) × (cents_a ≤ most) }
-    requires octets_b_le_most { (octets_b ≤ most) × (cents_b ≤ most) }
+    requires line_a { (octets_a ≤ most) × (cents_a ≤ most) }
+    requires line_b { (octets_b ≤ most) × (cents_b ≤ most) }
     ensures { result
         ≡ tie_broken (ahead octets_a cents_a octets_b cents_b) (ahead octets_b cents_b octets_a cents_a) a b }
 {
@@ -76,8 +76,8 @@ pub fn ranks_before_words(
     cents_b: u64,
 ) -> bool
     requires sound { Sound octets.now cents.now }
-    requires a_nonzero { ((0 < a) × (a < word_count)) × ((0 < b) × (b < word_count)) }
-    requires octets_b_value { (octets_b ≡ get_or octets.now b 0) × (cents_b ≡ get_or cents.now b 0) }
+    requires are_hops { ((0 < a) × (a < word_count)) × ((0 < b) × (b < word_count)) }
+    requires line_of_b { (octets_b ≡ get_or octets.now b 0) × (cents_b ≡ get_or cents.now b 0) }
     ensures { result ≡ before octets.now cents.now a b }
 {
     let i = a as usize;
@@ -87,7 +87,7 @@ pub fn ranks_before_words(
 // Whether hop a ranks before hop b.
 pub fn ranks_before(octets: &[u64], cents: &[u64], a: u32, b: u32) -> bool
     requires sound { Sound octets.now cents.now }
-    requires a_nonzero { ((0 < a) × (a < word_count)) × ((0 < b) × (b < word_count)) }
+    requires are_hops { ((0 < a) × (a < word_count)) × ((0 < b) × (b < word_count)) }
     ensures { result ≡ before octets.now cents.now a b }
 {
     let j = b as usize;

@@ -32,6 +32,7 @@ pub fn clear_octets(octets: &mut [u64]) -> u32
 
 // What of look up's numbers refuses a record: all but 8. It is selected and not jumped to, since no processor foresees whether the next
 // address has a route.
+#[tactic(auto, unfolding(crate::specs::Booking::refusal_of))]
 fn refusal_of(code: u32) -> u32
     ensures { result ≡ refusal_of code }
 {
@@ -81,7 +82,7 @@ pub fn book(
 
 // Books by look up's answers, which the room holds as numbers, and leaves there the number of each record.
 fn enter_all(octets: &mut [u64], amounts: &[u64], codes: &mut [u32])
-    requires octets_len { (length octets.old ≡ word_count) × (length amounts.now ≡ length codes.old) }
+    requires sizes { (length octets.old ≡ word_count) × (length amounts.now ≡ length codes.old) }
     requires hops_fit { HopsFit codes.old }
     ensures { record { codes = codes.exit.now; words = octets.new }
         ≡ enter_each codes.entry.now amounts.now octets.old }

@@ -30,7 +30,7 @@ pub fn cursor_at(rules: &[u64], used: usize, address: u32) -> usize
 pub fn pass(rules: &[u64], used: usize, at: usize, start: u64) -> Cursor
     requires listed { Listed rules.now used }
     requires cursor_at { CursorAt rules.now used start at }
-    requires block_size_value { (start % block_size ≡ 0) × (start < 2 ^ 63) }
+    requires aligned { (start % block_size ≡ 0) × (start < 2 ^ 63) }
     ensures { PassedIs rules.now used start result.at result.opened }
 {
     let mut i = at;
@@ -65,7 +65,7 @@ pub fn stretch(rules: &[u64], used: usize, at: usize, start: u64, left: usize) -
 // Whether a live prefix longer than a block lies in the one that starts at this address.
 pub fn is_open(rules: &[u64], used: usize, start: u32) -> bool
     requires listed { Listed rules.now used }
-    requires block_size_value { start % block_size ≡ 0 }
+    requires aligned { start % block_size ≡ 0 }
     ensures { result ≡ is_open (routes rules.now) start }
 {
     let at = cursor_at(rules, used, start);

@@ -114,7 +114,7 @@ pub fn put(rules: &mut [u64], used: usize, place: Place, prefix: Prefix, hop: u3
     requires listed { Listed rules.old used }
     requires place_is { PlaceIs rules.old used prefix place.at place.found }
     requires route { IsRoute (route_by prefix hop) }
-    requires used_in_bounds { place.found ≡ false → used < length rules.old }
+    requires room { place.found ≡ false → used < length rules.old }
     ensures { rules.new ≡ words_of (length rules.old) (with_route (route_by prefix hop) (routes rules.old)) }
 {
     let at = place.at;
@@ -131,7 +131,7 @@ pub fn take_out(rules: &mut [u64], used: usize, place: Place, prefix: Prefix)
     requires listed { Listed rules.old used }
     requires well_formed { WellFormed prefix }
     requires place_is { PlaceIs rules.old used prefix place.at place.found }
-    requires found_value { place.found ≡ true }
+    requires is_found { place.found ≡ true }
     ensures { rules.new ≡ words_of (length rules.old) (without prefix (routes rules.old)) }
 {
     remove_at(rules, used, place.at);

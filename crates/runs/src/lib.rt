@@ -53,7 +53,7 @@ fn up_to(rules: &[u64], used: usize, address: u32) -> usize
 // How many of the first `from` live words are up to the prefix of this length around the address; the others are past it.
 fn up_to_before(rules: &[u64], used: usize, address: u32, length: u32, from: usize) -> usize
     requires listed { Listed rules.now used }
-    requires length_len_bound { length ≤ 32 }
+    requires length_fits { length ≤ 32 }
     requires bracket { Bracket rules.now used (key_of (around length address) + 1) 0 from }
     ensures { CountUpTo rules.now used length address result }
 {
@@ -75,7 +75,7 @@ fn shared(address: u32, other: u32, limit: u32) -> u32
 // Whether no word is left, or the last of the first `i` contains the address.
 fn is_match_or_none(rules: &[u64], used: usize, address: u32, i: usize) -> bool
     requires listed { Listed rules.now used }
-    requires i_le_used { i ≤ used }
+    requires in_list { i ≤ used }
     ensures { result ≡ match_or_none rules.now address i }
 {
     if i == 0 {

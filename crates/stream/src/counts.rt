@@ -4,6 +4,7 @@ ghost use Rattle.ground.specs.Lists.{differs};
 ghost use Rattle.stream.specs.Stream.{used};
 
 // 1 for a word that is not 0.
+#[tactic(auto, unfolding(ground::specs::Lists::differs))]
 fn one_if_used(word: u64) -> u64
     ensures { result ≡ differs word 0 }
 {

@@ -62,7 +62,7 @@ pub fn open_and_paint(
     new: u32,
 ) -> u32
     requires openable { Openable territory prefix segment (tables_of first.old long.old owners.old) }
-    requires block_value { block ≡ block_of territory prefix.address }
+    requires block_of_prefix { block ≡ block_of territory prefix.address }
     ensures { left result (tables_of first.new long.new owners.new)
         ≡ leaves (λ x. repainted territory prefix (λ a. paint_cell prefix.length new) (opened_at block segment x))
         (tables_of first.old long.old owners.old) }
@@ -88,7 +88,7 @@ pub fn close(
     cell: u32,
 ) -> u32
     requires closable { Closable territory prefix (tables_of first.old long.old owners.old) }
-    requires block_value { block ≡ block_of territory prefix.address }
+    requires block_of_prefix { block ≡ block_of territory prefix.address }
     ensures { left result (tables_of first.new long.new owners.new)
         ≡ leaves (closed_at block (segment_of (get_or first.old block 0)) cell) (tables_of first.old long.old owners.old) }
 {

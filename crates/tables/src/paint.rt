@@ -109,7 +109,7 @@ pub fn paint(
     new: u32,
 ) -> u32
     requires repaintable { Repaintable territory prefix (tables_of first.old long.old owners.now) }
-    requires blocks_value { blocks ≡ touched territory prefix }
+    requires touched_blocks { blocks ≡ touched territory prefix }
     ensures { left result (tables_of first.new long.new owners.now)
         ≡ leaves (repainted territory prefix (λ a. paint_cell prefix.length new)) (tables_of first.old long.old owners.now) }
 {

@@ -35,8 +35,8 @@ pub fn segment_cells(pointer: u32) -> Range
 
 // The cells of a prefix longer than 24 in a segment.
 pub fn prefix_cells(segment: usize, prefix: Prefix) -> Range
-    requires segment_lt_pointer_bit { segment < pointer_bit }
-    requires width_lt_length { (width < prefix.length) × (prefix.length ≤ 32) }
+    requires segment_fits { segment < pointer_bit }
+    requires is_long { (width < prefix.length) × (prefix.length ≤ 32) }
     ensures { PrefixRun prefix segment result.from result.to }
 {
     let from = segment_start(segment) + (prefix.address % Block::SIZE) as usize;

@@ -38,6 +38,7 @@ pub struct Part {
 }
 
 // Whether a withdrawal of a prefix of this length leaves the cell.
+#[tactic(auto, unfolding(crate::specs::inner::Unpaint::stays))]
 fn stays(cell: u32, length: u32) -> bool
     ensures { result ≡ stays length cell }
 {
@@ -124,7 +125,7 @@ fn unpaint_run(
     run: Run,
 ) -> Tally
     requires within { Within from to cells.old }
-    requires from_bound { start + (to - from) ≤ 2 ^ 32 }
+    requires in_range { start + (to - from) ≤ 2 ^ 32 }
     requires asking { Asking rules.now used start run }
     ensures { RunUnpainted length rules.now used start from to cells.old cells.new
         result.changed result.run }
@@ -191,7 +192,7 @@ fn blocks_in(room: u64) -> u64
 // a pointer. The first one is none; in sound memory no other is, since no rule starts in a block that lies whole in a run.
 fn piece(first: &[u32], block: usize, to: usize, room: u64) -> usize
     requires inside { Inside block to first.now }
-    requires block_lt_to { (block < to) × (0 < room) }
+    requires some_blocks { (block < to) × (0 < room) }
     requires closed { Closed block (block + 1) first.now }
     ensures { PieceIs room block to first.now result }
 {
@@ -218,7 +219,7 @@ fn unpaint_some(
     run: Run,
 ) -> Part
     requires blocks_ready { BlocksReady territory block to (tables_of first.old long.old owners.now) }
-    requires block_lt_to { block < to }
+    requires some_blocks { block < to }
     requires asking { Asking rules.now used (block_start territory block) run }
     ensures { SomeUnpainted territory length rules.now used block to (tables_of first.old long.old owners.now)
         first.new long.new result.changed result.run result.to }
@@ -289,7 +290,7 @@ pub fn unpaint(
     blocks: Blocks,
 ) -> u32
     requires repaintable { Repaintable territory prefix (tables_of first.old long.old owners.now) }
-    requires blocks_value { blocks ≡ touched territory prefix }
+    requires touched_blocks { blocks ≡ touched territory prefix }
     requires listed { Listed rules.now used }
     ensures { left result (tables_of first.new long.new owners.now)
         ≡ leaves (repainted territory prefix (unpaint_cell prefix.length (routes rules.now)))

@@ -23,9 +23,10 @@ use tables::fill;
 
 // Whether a prefix of this length closes the block that starts at the address: it is longer than 24, and no rule that is left is longer
 // than 24 in the block.
+#[tactic(auto, using(std::proofs::lemmas::Bool::Decides::nat_tests))]
 fn closes_block(rules: &[u64], used: usize, start: u32, length: u32) -> bool
     requires listed { Listed rules.now used }
-    requires block_size_value { start % block_size ≡ 0 }
+    requires aligned { start % block_size ≡ 0 }
     ensures { result ≡ (ltb width length && not (is_open (routes rules.now) start)) }
 {
     if length <= Block::WIDTH {
@@ -47,7 +48,7 @@ fn unpaint_or_close(
 ) -> u32
     requires repaintable { Repaintable territory prefix (tables_of first.old long.old owners.old) }
     requires listed { Listed rules.now used }
-    requires blocks_value { blocks ≡ touched territory prefix }
+    requires touched_blocks { blocks ≡ touched territory prefix }
     ensures { left result (tables_of first.new long.new owners.new)
         ≡ leaves (unpainted territory prefix (routes rules.now)) (tables_of first.old long.old owners.old) }
 {

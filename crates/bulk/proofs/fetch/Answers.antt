@@ -12,7 +12,7 @@ offset_bounds-first-answers c = omega (arith, c.slice_known-in-loop-i-1.given c.
 pub bounds-first-answers : goal.bounds-first-answers
 bounds-first-answers c =
     let turn = c in
-    omega (arith, pass_left turn.loop-i.invariant, turn.requires.by_index turn.loop-i.i (omega arith))
+    omega (arith, pass_left turn.loop-i.invariant, turn.requires.in_table turn.loop-i.i (omega arith))
 
 pub loop-i-preserved : goal.loop-i-preserved
 loop-i-preserved c = pass_more c.loop-i.invariant c.fetched.ensures

@@ -17,13 +17,13 @@ returns-then-standing-ne0 c =
 pub returns-then-addresses-answers : goal.returns-then-addresses-answers
 returns-then-addresses-answers c =
     let s = c.args in
-    refuses s.first.now s.long.now s.territory s.addresses.now s.answers.now (λ h. omega (arith, h.1, c.if-addresses-answers.true))
+    refuses s.first.now s.long.now s.territory s.addresses.now s.answers.now (λ h. omega (arith, h.1))
 
 pub overflow_cast-blocks : goal.overflow_cast-blocks
 overflow_cast-blocks c =
     let may_read : let s = c.args in
     LentToRead (length s.first.now) (length s.long.now) s.territory =
-    let zero : c.standing.result ≡ 0 = omega (arith, c.if-standing-ne0.false) in (stands c.standing.ensures zero).lent in
+    let zero : c.standing.result ≡ 0 = omega arith in (stands c.standing.ensures zero).lent in
     let s = c.args in
     omega (arith, may_read.a_cell_a_block, few_blocks s.territory)
 
@@ -31,12 +31,12 @@ pub fetch-requires : goal.fetch-requires
 fetch-requires c =
     let may_read : let s = c.args in
     LentToRead (length s.first.now) (length s.long.now) s.territory =
-    let zero : c.standing.result ≡ 0 = omega (arith, c.if-standing-ne0.false) in (stands c.standing.ensures zero).lent in
+    let zero : c.standing.result ≡ 0 = omega arith in (stands c.standing.ensures zero).lent in
     let room-each : let s = c.args in length s.addresses.now ≡ length s.answers.now =
-    omega (arith, c.if-addresses-answers.false) in
+    omega arith in
     let s = c.args in record {
-      answers_len = omega (arith, room-each);
-      by_index = places_lent s.first.now s.long.now s.territory s.addresses.now s.answers.now
+      sizes = omega (arith, room-each);
+      in_table = places_lent s.first.now s.long.now s.territory s.addresses.now s.answers.now
           may_read c.places.ensures;
     }
 
@@ -44,9 +44,9 @@ pub returns : goal.returns
 returns c =
     let may_read : let s = c.args in
     LentToRead (length s.first.now) (length s.long.now) s.territory =
-    let zero : c.standing.result ≡ 0 = omega (arith, c.if-standing-ne0.false) in (stands c.standing.ensures zero).lent in
+    let zero : c.standing.result ≡ 0 = omega arith in (stands c.standing.ensures zero).lent in
     let room-each : let s = c.args in length s.addresses.now ≡ length s.answers.now =
-    omega (arith, c.if-addresses-answers.false) in
+    omega arith in
     let judging = c in
     let fetching = judging in
     let placing = fetching in

@@ -62,7 +62,7 @@ pass-cursor-requires c =
     let same : c.block_start-start.result + block_size * c.stretch-closed.result ≡ c.block_start-next.result = omega (arith, c.block_start-start.ensures, c.block_start-next.ensures) in record {
       listed = s.requires.listed;
       cursor_at = subst (λ (a : ℕ). CursorAt s.args.rules.now s.args.used a c.loop-block.here) same c.stretch-closed.ensures.cursor;
-      block_size_value = (
+      aligned = (
         omega (arith, c.block_start-next.ensures, aligned s.requires.sized.territory),
         omega (
           arith,

@@ -33,7 +33,7 @@ enter_all-requires c =
     let s = c.args in
     let said = c.look_up_all.ensures in
     let yes = has_answered s.first.now s.long.now s.territory s.addresses.now s.codes.now said (omega arith) in
-    record { octets_len = (omega arith, omega (arith, yes.0.1)); hops_fit = hops_small s.first.now s.long.now s.territory s.addresses.now _ yes.1 }
+    record { sizes = (omega arith, omega (arith, yes.0.1)); hops_fit = hops_small s.first.now s.long.now s.territory s.addresses.now _ yes.1 }
 
 pub returns : goal.returns
 returns c =

@@ -14,15 +14,15 @@ pub returns-then-word-gt-MOST : goal.returns-then-word-gt-MOST
 returns-then-word-gt-MOST c =
     let k = c in
     let s = k.args in
-    let passed : refusal_of s.answer.code ≡ 0 = omega (arith, k.refusal_of-refused.ensures, c.if-refused-ne0.false) in
-    too_much s.answer s.amount s.octets.now passed (omega (arith, c.if-word-gt-MOST.true))
+    let passed : refusal_of s.answer.code ≡ 0 = omega (arith, k.refusal_of-refused.ensures) in
+    too_much s.answer s.amount s.octets.now passed (omega arith)
 
 pub returns-then-word-amount : goal.returns-then-word-amount
 returns-then-word-amount c =
     let k = c in
     let s = k.args in
-    let passed : refusal_of s.answer.code ≡ 0 = omega (arith, k.refusal_of-refused.ensures, c.if-refused-ne0.false) in
-    too_much s.answer s.amount s.octets.now passed (omega (arith, c.if-word-amount.true))
+    let passed : refusal_of s.answer.code ≡ 0 = omega (arith, k.refusal_of-refused.ensures) in
+    too_much s.answer s.amount s.octets.now passed (omega arith)
 
 pub overflow_add-octets : goal.overflow_add-octets
 overflow_add-octets c = omega arith
@@ -31,5 +31,5 @@ pub returns : goal.returns
 returns c =
     let k = c in
     let s = k.args in
-    let passed : refusal_of s.answer.code ≡ 0 = omega (arith, k.refusal_of-refused.ensures, c.if-refused-ne0.false) in
-    entered s.answer s.amount s.octets.now passed _ (omega arith) (omega (arith, c.if-word-gt-MOST.false, c.if-word-amount.false))
+    let passed : refusal_of s.answer.code ≡ 0 = omega (arith, k.refusal_of-refused.ensures) in
+    entered s.answer s.amount s.octets.now passed _ (omega arith) (omega arith)

@@ -12,7 +12,7 @@ pub loop-length-init : goal.loop-length-init
 loop-length-init c = climb_start c.requires.listed c.requires.count_up_to
 
 pub is_match_or_none-requires : goal.is_match_or_none-requires
-is_match_or_none-requires c = record { listed = c.requires.listed; i_le_used = c.loop-length.invariant.count.within }
+is_match_or_none-requires c = record { listed = c.requires.listed; in_list = c.loop-length.invariant.count.within }
 
 pub overflow_sub-i : goal.overflow_sub-i
 overflow_sub-i c =
@@ -40,7 +40,7 @@ shared-length-requires c =
 pub up_to_before-i-requires : goal.up_to_before-i-requires
 up_to_before-i-requires c =
     let at-loop = c in
-    let s = at-loop.requires.listed in record { listed = s; length_len_bound = omega (arith, c.shared-length.ensures.below, at-loop.loop-length.invariant.short); bracket = climb_back s at-loop.loop-length.invariant c.shared-length.result (omega (arith, c.shared-length.ensures.below)) }
+    let s = at-loop.requires.listed in record { listed = s; length_fits = omega (arith, c.shared-length.ensures.below, at-loop.loop-length.invariant.short); bracket = climb_back s at-loop.loop-length.invariant c.shared-length.result (omega (arith, c.shared-length.ensures.below)) }
 
 pub loop-length-smaller : goal.loop-length-smaller
 loop-length-smaller c = c.shared-length.ensures.below

@@ -37,7 +37,7 @@ sort-sorted-requires c =
       octets = if_so (within? 0 s.octets.now) c.within.ensures (ap not c.if-not-within.false);
       cents = if_so (within? 1 s.cents.now) c.within-2.ensures (ap not c.if-not-within-2.false);
     } in
-    record { sound = tested_sound tested; hops = c.number.ensures; lo_le_hi = omega arith }
+    record { sound = tested_sound tested; hops = c.number.ensures; in_list = omega arith }
 
 pub returns-then-sorted : goal.returns-then-sorted
 returns-then-sorted c =
@@ -50,7 +50,7 @@ returns-then-sorted c =
     } in
     let t = tested in
     let e = c.sort-sorted.ensures in
-    filled_0 t (ranked_run (tested_sound t) e.hops_2.0 (e.sorted_run c.if-sorted.true))
+    filled_0 t (ranked_run (tested_sound t) e.kept.0 (e.sorted_run c.if-sorted.true))
 
 pub build-requires : goal.build-requires
 build-requires c =
@@ -61,7 +61,7 @@ build-requires c =
       octets = if_so (within? 0 s.octets.now) c.within.ensures (ap not c.if-not-within.false);
       cents = if_so (within? 1 s.cents.now) c.within-2.ensures (ap not c.if-not-within-2.false);
     } in
-    record { sound = tested_sound tested; hops = c.sort-sorted.ensures.hops_2.0 }
+    record { sound = tested_sound tested; hops = c.sort-sorted.ensures.kept.0 }
 
 pub drain-requires : goal.drain-requires
 drain-requires c =

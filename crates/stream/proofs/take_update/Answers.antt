@@ -10,7 +10,7 @@ returns-then-update-eq-ANNOUNCE c =
     let k = c in
     let test = k in
     let s = test in
-    let announces : s.args.update.kind ≡ 1 = omega (arith, test.if-update-eq-ANNOUNCE.true) in
+    let announces : s.args.update.kind ≡ 1 = omega arith in
     announcing s.args.territory s.args.update (lent_of s.args.first.now s.args.long.now s.args.owners.now s.args.rules.now) announces k.announce.ensures
 
 pub returns-then-update-eq-WITHDRAW : goal.returns-then-update-eq-WITHDRAW
@@ -18,8 +18,8 @@ returns-then-update-eq-WITHDRAW c =
     let k = c in
     let test = k in
     let s = test in
-    let other : ¬ (s.args.update.kind ≡ 1) = omega (arith, test.if-update-eq-ANNOUNCE.false) in
-    let withdraws : s.args.update.kind ≡ 2 = omega (arith, test.if-update-eq-WITHDRAW.true) in
+    let other : ¬ (s.args.update.kind ≡ 1) = omega arith in
+    let withdraws : s.args.update.kind ≡ 2 = omega arith in
     withdrawing s.args.territory s.args.update (lent_of s.args.first.now s.args.long.now s.args.owners.now s.args.rules.now) other withdraws k.withdraw.ensures
 
 pub returns : goal.returns
@@ -27,6 +27,6 @@ returns c =
     let k = c in
     let test = k in
     let s = test in
-    let other : ¬ (s.args.update.kind ≡ 1) = omega (arith, test.if-update-eq-ANNOUNCE.false) in
-    let another : ¬ (s.args.update.kind ≡ 2) = omega (arith, test.if-update-eq-WITHDRAW.false) in
+    let other : ¬ (s.args.update.kind ≡ 1) = omega arith in
+    let another : ¬ (s.args.update.kind ≡ 2) = omega arith in
     re_homing s.args.territory s.args.update (lent_of s.args.first.now s.args.long.now s.args.owners.now s.args.rules.now) other another k.re_home.ensures

@@ -21,16 +21,16 @@ pub overflow_add-to : goal.overflow_add-to
 overflow_add-to c =
     let ready : let a = c.args in
     BlocksReady a.territory a.blocks.from (a.blocks.from + a.blocks.count) (tables_of a.first.now a.long.now a.owners.now) =
-    let s = c in blocks_ready s.requires.repaintable.ready c.if-length-le-WIDTH.true s.requires.blocks_value in
+    let s = c in blocks_ready s.requires.repaintable.ready c.if-length-le-WIDTH.true s.requires.touched_blocks in
     omega (arith, ready.within, few_firsts ready.sized)
 
 pub unpaint_blocks-tally-requires : goal.unpaint_blocks-tally-requires
 unpaint_blocks-tally-requires c =
     let from : c.args.blocks.from ≡ block_of c.args.territory c.args.prefix.address =
-    ap (λ (x : Blocks). x.from) c.requires.blocks_value in
+    ap (λ (x : Blocks). x.from) c.requires.touched_blocks in
     let ready : let a = c.args in
     BlocksReady a.territory a.blocks.from (a.blocks.from + a.blocks.count) (tables_of a.first.now a.long.now a.owners.now) =
-    let s = c in blocks_ready s.requires.repaintable.ready c.if-length-le-WIDTH.true s.requires.blocks_value in
+    let s = c in blocks_ready s.requires.repaintable.ready c.if-length-le-WIDTH.true s.requires.touched_blocks in
     let k = c in
     let s = k in
     let pre = s.requires.repaintable.ready in
@@ -42,24 +42,24 @@ returns-then-length-le-WIDTH c =
     let at-unpaint = c in
     let k = at-unpaint in
     let s = k in
-    blocks-repainted s.requires.repaintable.ready k.if-length-le-WIDTH.true s.requires.blocks_value _ at-unpaint.unpaint_blocks-tally.ensures.blocks
+    blocks-repainted s.requires.repaintable.ready k.if-length-le-WIDTH.true s.requires.touched_blocks _ at-unpaint.unpaint_blocks-tally.ensures.blocks
 
 pub offset_bounds-first-block : goal.offset_bounds-first-block
 offset_bounds-first-block c =
     let from : c.args.blocks.from ≡ block_of c.args.territory c.args.prefix.address =
-    ap (λ (x : Blocks). x.from) c.requires.blocks_value in
+    ap (λ (x : Blocks). x.from) c.requires.touched_blocks in
     let s = c in omega (arith, block_lent s.requires.repaintable.ready from, few_firsts s.requires.repaintable.ready.sized)
 
 pub bounds-first-block : goal.bounds-first-block
 bounds-first-block c =
     let from : c.args.blocks.from ≡ block_of c.args.territory c.args.prefix.address =
-    ap (λ (x : Blocks). x.from) c.requires.blocks_value in
+    ap (λ (x : Blocks). x.from) c.requires.touched_blocks in
     let s = c in omega (arith, block_lent s.requires.repaintable.ready from)
 
 pub segment-requires : goal.segment-requires
 segment-requires c =
     let from : c.args.blocks.from ≡ block_of c.args.territory c.args.prefix.address =
-    ap (λ (x : Blocks). x.from) c.requires.blocks_value in
+    ap (λ (x : Blocks). x.from) c.requires.touched_blocks in
     let open_block : let a = c.args in Closable a.territory a.prefix (tables_of a.first.now a.long.now a.owners.now) =
     closable c.requires.repaintable c.if-length-le-WIDTH.false in
     omega (arith, points open_block from)
@@ -67,29 +67,29 @@ segment-requires c =
 pub prefix_cells-range-requires : goal.prefix_cells-range-requires
 prefix_cells-range-requires c =
     let from : c.args.blocks.from ≡ block_of c.args.territory c.args.prefix.address =
-    ap (λ (x : Blocks). x.from) c.requires.blocks_value in
+    ap (λ (x : Blocks). x.from) c.requires.touched_blocks in
     let open_block : let a = c.args in Closable a.territory a.prefix (tables_of a.first.now a.long.now a.owners.now) =
     closable c.requires.repaintable c.if-length-le-WIDTH.false in
     let k = c in
     let lent = (owns open_block from).lent in
-    record { segment_lt_pointer_bit = omega (arith, c.segment.ensures, open_block.ready.sized.few); width_lt_length = (omega (arith, k.if-length-le-WIDTH.false), open_block.ready.formed.short) }
+    record { segment_fits = omega (arith, c.segment.ensures, open_block.ready.sized.few); is_long = (omega (arith, k.if-length-le-WIDTH.false), open_block.ready.formed.short) }
 
 pub unpaint_run-tally-requires : goal.unpaint_run-tally-requires
 unpaint_run-tally-requires c =
     let from : c.args.blocks.from ≡ block_of c.args.territory c.args.prefix.address =
-    ap (λ (x : Blocks). x.from) c.requires.blocks_value in
+    ap (λ (x : Blocks). x.from) c.requires.touched_blocks in
     let open_block : let a = c.args in Closable a.territory a.prefix (tables_of a.first.now a.long.now a.owners.now) =
     closable c.requires.repaintable c.if-length-le-WIDTH.false in
     let at-segment = c in
     let k = at-segment in
     let s = k in
     let run = c.prefix_cells-range.ensures in
-    let small = ends_within s.requires.repaintable.ready.formed (omega arith) in record { within = run_within open_block from at-segment.segment.ensures run; from_bound = omega (arith, run.high, small); asking = record { listed = s.requires.listed; kept = k.longest-run.ensures.kept } }
+    let small = ends_within s.requires.repaintable.ready.formed (omega arith) in record { within = run_within open_block from at-segment.segment.ensures run; in_range = omega (arith, run.high, small); asking = record { listed = s.requires.listed; kept = k.longest-run.ensures.kept } }
 
 pub returns : goal.returns
 returns c =
     let from : c.args.blocks.from ≡ block_of c.args.territory c.args.prefix.address =
-    ap (λ (x : Blocks). x.from) c.requires.blocks_value in
+    ap (λ (x : Blocks). x.from) c.requires.touched_blocks in
     let open_block : let a = c.args in Closable a.territory a.prefix (tables_of a.first.now a.long.now a.owners.now) =
     closable c.requires.repaintable c.if-length-le-WIDTH.false in
     let at-run = c in

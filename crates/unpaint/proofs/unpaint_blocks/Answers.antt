@@ -27,7 +27,7 @@ unpaint_some-part-requires c =
     let at-loop = c in
     let s = at-loop in
     let inv = at-loop.loop-block.invariant in
-    record { blocks_ready = ready_then inv.2.blocks inv.0 inv.1 (le_refl _) s.requires.blocks_ready; block_lt_to = omega arith; asking = record { listed = s.requires.asking.listed; kept = inv.2.kept } }
+    record { blocks_ready = ready_then inv.2.blocks inv.0 inv.1 (le_refl _) s.requires.blocks_ready; some_blocks = omega arith; asking = record { listed = s.requires.asking.listed; kept = inv.2.kept } }
 
 pub overflow_add-changed : goal.overflow_add-changed
 overflow_add-changed c =

@@ -42,7 +42,7 @@ unpaint_run-tally-requires c =
     s.requires.blocks_ready.owned s.args.block (le_refl _) (omega arith) (leb-true _ _ (sym c.is_pointer.ensures ∙ c.if-is_pointer.true)) in
     let k = c in
     let s = k in
-    let run = c.segment_cells-range.ensures in record { within = segment_within s.requires.blocks_ready.sized owns (omega (arith, run.low)) (omega (arith, run.high)) (omega (arith, run.low, run.high)); from_bound = omega (arith, run.high, k.block_start-start.ensures, end); asking = asking }
+    let run = c.segment_cells-range.ensures in record { within = segment_within s.requires.blocks_ready.sized owns (omega (arith, run.low)) (omega (arith, run.high)) (omega (arith, run.low, run.high)); in_range = omega (arith, run.high, k.block_start-start.ensures, end); asking = asking }
 
 pub returns-then-is_pointer : goal.returns-then-is_pointer
 returns-then-is_pointer c =
@@ -58,7 +58,7 @@ returns-then-is_pointer c =
     (omega (arith, cells.low, cells.high)) (omega (arith, k.block_start-start.ensures)) at-run.unpaint_run-tally.ensures.changed in
     record {
       some = omega arith;
-      within = omega (arith, k.requires.block_lt_to);
+      within = omega (arith, k.requires.some_blocks);
       done = record {
         blocks = block_points _ _ owns (omega (arith, cells.low)) (omega (arith, cells.high)) run;
         kept = kept_later (omega (arith, cells.high, k.block_start-start.ensures)) at-run.unpaint_run-tally.ensures.kept;
@@ -76,7 +76,7 @@ piece-stop-requires c =
     let direct : let a = c.args in get_or a.first.now a.block 0 < pointer_bit =
     leb-false _ _ (sym c.is_pointer.ensures ∙ c.if-is_pointer.false) in
     let at-else = c in
-    let s = at-else in record { inside = record { ordered = omega arith; inside = s.requires.blocks_ready.within }; block_lt_to = (omega arith, omega (arith, c.run_at-kept.ensures.past)); closed = closed_one s.args.block s.args.first.now direct }
+    let s = at-else in record { inside = record { ordered = omega arith; inside = s.requires.blocks_ready.within }; some_blocks = (omega arith, omega (arith, c.run_at-kept.ensures.past)); closed = closed_one s.args.block s.args.first.now direct }
 
 pub replace_run-requires : goal.replace_run-requires
 replace_run-requires c =

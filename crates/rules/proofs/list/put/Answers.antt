@@ -28,7 +28,7 @@ returns-then-place c =
 pub insert_at-requires : goal.insert_at-requires
 insert_at-requires c =
     let s = c.requires in
-    let room = s.used_in_bounds c.if-place.false in
+    let room = s.room c.if-place.false in
     (omega (arith, s.place_is.position.within), omega (arith, s.place_is.position.within))
 
 pub returns : goal.returns
@@ -38,4 +38,4 @@ returns c =
     let s = test in
     at.insert_at.ensures
     ∙ ap (inserted_at s.args.rules.now s.args.used s.args.place.at) test.pack-word.ensures
-    ∙ put_new s.requires.listed s.requires.route.formed s.requires.place_is s.args.hop test.if-place.false (s.requires.used_in_bounds test.if-place.false)
+    ∙ put_new s.requires.listed s.requires.route.formed s.requires.place_is s.args.hop test.if-place.false (s.requires.room test.if-place.false)

@@ -9,7 +9,7 @@ use Rattle.rules.proofs.list.take_out.Goals as goal
 pub remove_at-requires : goal.remove_at-requires
 remove_at-requires c =
     let s = c.requires in
-    (omega (arith, (place_live s.listed s.well_formed s.place_is s.found_value).0), omega (arith, listed_within s.listed))
+    (omega (arith, (place_live s.listed s.well_formed s.place_is s.is_found).0), omega (arith, listed_within s.listed))
 
 pub returns : goal.returns
 returns c =
@@ -17,4 +17,4 @@ returns c =
     let s = at.requires in
     let args = at.args in
     let taken : _ ≡ removed_at args.rules.now args.used args.place.at = at.remove_at.ensures in
-    taken ∙ taken_out s.listed s.well_formed s.place_is s.found_value
+    taken ∙ taken_out s.listed s.well_formed s.place_is s.is_found

@@ -9,28 +9,28 @@ use Rattle.tables.proofs.fill.open_and_paint.Goals as goal
 pub bounds-first-block : goal.bounds-first-block
 bounds-first-block c =
     let s = c in
-    omega (arith, block_in s.requires.openable s.requires.block_value)
+    omega (arith, block_in s.requires.openable s.requires.block_of_prefix)
 
 pub fill_segment-changed-requires : goal.fill_segment-changed-requires
 fill_segment-changed-requires c =
     let run : InSegment c.segment_start-at.result c.prefix_cells-range.result.from c.prefix_cells-range.result.to c.args.long.now =
-    run_in_segment c.requires.openable c.requires.block_value c.segment_start-at.ensures c.prefix_cells-range.ensures in
+    run_in_segment c.requires.openable c.requires.block_of_prefix c.segment_start-at.ensures c.prefix_cells-range.ensures in
     run
 
 pub bounds-first-block-2 : goal.bounds-first-block-2
 bounds-first-block-2 c =
     let s = c in
-    omega (arith, block_in s.requires.openable s.requires.block_value)
+    omega (arith, block_in s.requires.openable s.requires.block_of_prefix)
 
 pub overflow_add-result : goal.overflow_add-result
 overflow_add-result c =
     let run : InSegment c.segment_start-at.result c.prefix_cells-range.result.from c.prefix_cells-range.result.to c.args.long.now =
-    run_in_segment c.requires.openable c.requires.block_value c.segment_start-at.ensures c.prefix_cells-range.ensures in
+    run_in_segment c.requires.openable c.requires.block_of_prefix c.segment_start-at.ensures c.prefix_cells-range.ensures in
     omega (arith, run_small c.fill_segment-changed.ensures, run.small)
 
 pub returns : goal.returns
 returns c =
     let k = c in
     let s = k in
-    opened_and_changed s.requires.openable s.requires.block_value k.segment_start-at.ensures k.prefix_cells-range.ensures _ (λ a. k.paint_cell-painted.ensures)
+    opened_and_changed s.requires.openable s.requires.block_of_prefix k.segment_start-at.ensures k.prefix_cells-range.ensures _ (λ a. k.paint_cell-painted.ensures)
     (omega arith) c.point_to.ensures (omega arith) c.fill_segment-changed.ensures

@@ -15,7 +15,7 @@ pub open_and_paint-requires : goal.open_and_paint-requires
 open_and_paint-requires c =
     let at-then = c in
     let P = at-then.requires in
-    record { openable = openable P at-then.if-opens.true; block_value = ap (λ (x : Blocks). x.from) P.touches }
+    record { openable = openable P at-then.if-opens.true; block_of_prefix = ap (λ (x : Blocks). x.from) P.touches }
 
 pub returns-then-opens : goal.returns-then-opens
 returns-then-opens c =
@@ -30,7 +30,7 @@ pub paint-requires : goal.paint-requires
 paint-requires c =
     let at-else = c in
     let P = at-else.requires in
-    record { repaintable = repaintable P at-else.if-opens.false; blocks_value = P.touches }
+    record { repaintable = repaintable P at-else.if-opens.false; touched_blocks = P.touches }
 
 pub returns : goal.returns
 returns c =

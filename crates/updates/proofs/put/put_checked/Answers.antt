@@ -10,16 +10,10 @@ use Rattle.updates.specs.inner.Steps.{Puttable}
 use Rattle.updates.proofs.Outcomes.{refuses, accepts}
 use Rattle.updates.proofs.put.put_checked.Goals as goal
 
-pub returns-then-checked-ne0 : goal.returns-then-checked-ne0
-returns-then-checked-ne0 c =
-    let s = c in
-    let refused : ¬ (s.args.checked.code ≡ 0) = omega (arith, c.if-checked-ne0.true) in
-    refuses (lent_of s.args.first.now s.args.long.now s.args.owners.now s.args.rules.now) (effect s.args.territory (puts (route_by s.args.prefix s.args.hop)) (lent_of s.args.first.now s.args.long.now s.args.owners.now s.args.rules.now)) refused
-
 pub paint_route-cells-requires : goal.paint_route-cells-requires
 paint_route-cells-requires c =
     let zero : c.args.checked.code ≡ 0 =
-    omega (arith, c.if-checked-ne0.false) in
+    omega arith in
     let puttable : let s = c in Puttable s.args.territory (route_by s.args.prefix s.args.hop) s.args.checked (lent_of s.args.first.now s.args.long.now s.args.owners.now s.args.rules.now) =
     c.requires zero in
     puttable.paintable
@@ -27,17 +21,17 @@ paint_route-cells-requires c =
 pub put-requires : goal.put-requires
 put-requires c =
     let zero : c.args.checked.code ≡ 0 =
-    omega (arith, c.if-checked-ne0.false) in
+    omega arith in
     let puttable : let s = c in Puttable s.args.territory (route_by s.args.prefix s.args.hop) s.args.checked (lent_of s.args.first.now s.args.long.now s.args.owners.now s.args.rules.now) =
     c.requires zero in
     let P = puttable in
-    record { listed = P.listed; place_is = P.place; route = P.paintable.route; used_in_bounds = P.room }
+    record { listed = P.listed; place_is = P.place; route = P.paintable.route; room = P.room }
 
 pub returns : goal.returns
 unfolding retabled
 returns c =
     let zero : c.args.checked.code ≡ 0 =
-    omega (arith, c.if-checked-ne0.false) in
+    omega arith in
     let done = c in
     let painted = done in
     let at-else = painted in

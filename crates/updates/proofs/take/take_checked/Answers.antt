@@ -24,7 +24,7 @@ take_out-requires c =
     omega (arith, c.if-checked-ne0.false) in
     let takable : let s = c in Takable s.args.territory s.args.prefix s.args.checked (lent_of s.args.first.now s.args.long.now s.args.owners.now s.args.rules.now) =
     c.requires zero in
-    let A = takable in record { listed = A.listed; well_formed = A.repaintable.ready.formed; place_is = A.place; found_value = A.lives }
+    let A = takable in record { listed = A.listed; well_formed = A.repaintable.ready.formed; place_is = A.place; is_found = A.lives }
 
 pub overflow_sub-checked : goal.overflow_sub-checked
 overflow_sub-checked c =
@@ -42,7 +42,7 @@ unpaint_or_close-cells-requires c =
     c.requires zero in
     let out = c in
     let A = takable in
-    record { repaintable = A.repaintable; listed = left_listed A out.take_out.ensures (omega (arith, left-count A)); blocks_value = A.touches }
+    record { repaintable = A.repaintable; listed = left_listed A out.take_out.ensures (omega (arith, left-count A)); touched_blocks = A.touches }
 
 pub returns : goal.returns
 unfolding retabled

@@ -14,7 +14,7 @@ use Rattle.updates.proofs.take.unpaint_or_close.Goals as goal
 pub block_start-start-requires : goal.block_start-start-requires
 block_start-start-requires c =
     let own_block : c.args.blocks.from ≡ block_of c.args.territory c.args.prefix.address =
-    ap (λ (x : Blocks). x.from) c.requires.blocks_value in
+    ap (λ (x : Blocks). x.from) c.requires.touched_blocks in
     let s = c in
     let t = s.requires.repaintable.ready.sized.territory in
     omega (arith, own_block, (in_range_lem t.formed s.requires.repaintable.ready.inside.inside).0, s.well_formed)
@@ -22,12 +22,12 @@ block_start-start-requires c =
 pub closes_block-requires : goal.closes_block-requires
 closes_block-requires c =
     let s = c in
-    record { listed = s.requires.listed; block_size_value = omega (arith, c.block_start-start.ensures, aligned s.requires.repaintable.ready.sized.territory) }
+    record { listed = s.requires.listed; aligned = omega (arith, c.block_start-start.ensures, aligned s.requires.repaintable.ready.sized.territory) }
 
 pub close-requires : goal.close-requires
 close-requires c =
     let own_block : c.args.blocks.from ≡ block_of c.args.territory c.args.prefix.address =
-    ap (λ (x : Blocks). x.from) c.requires.blocks_value in
+    ap (λ (x : Blocks). x.from) c.requires.touched_blocks in
     let closing : let s = c in
     c.closes_block.result ≡ closes s.args.territory s.args.prefix (routes s.args.rules.now) =
     let s = c in
@@ -35,12 +35,12 @@ close-requires c =
     let at-then = c in
     let k = at-then in
     let s = k in
-    record { closable = closable s.requires.repaintable (routes s.args.rules.now) own_block k.block_start-start.ensures (sym closing ∙ at-then.if-closes_block.true); block_value = own_block }
+    record { closable = closable s.requires.repaintable (routes s.args.rules.now) own_block k.block_start-start.ensures (sym closing ∙ at-then.if-closes_block.true); block_of_prefix = own_block }
 
 pub returns-then-closes_block : goal.returns-then-closes_block
 returns-then-closes_block c =
     let own_block : c.args.blocks.from ≡ block_of c.args.territory c.args.prefix.address =
-    ap (λ (x : Blocks). x.from) c.requires.blocks_value in
+    ap (λ (x : Blocks). x.from) c.requires.touched_blocks in
     let closing : let s = c in
     c.closes_block.result ≡ closes s.args.territory s.args.prefix (routes s.args.rules.now) =
     let s = c in
@@ -53,12 +53,12 @@ returns-then-closes_block c =
     done.close.ensures (omega (arith, run.longest-run.ensures.is))
 
 pub unpaint-requires : goal.unpaint-requires
-unpaint-requires c = let s = c.requires in record { repaintable = s.repaintable; blocks_value = s.blocks_value; listed = s.listed }
+unpaint-requires c = let s = c.requires in record { repaintable = s.repaintable; touched_blocks = s.touched_blocks; listed = s.listed }
 
 pub returns : goal.returns
 returns c =
     let own_block : c.args.blocks.from ≡ block_of c.args.territory c.args.prefix.address =
-    ap (λ (x : Blocks). x.from) c.requires.blocks_value in
+    ap (λ (x : Blocks). x.from) c.requires.touched_blocks in
     let closing : let s = c in
     c.closes_block.result ≡ closes s.args.territory s.args.prefix (routes s.args.rules.now) =
     let s = c in

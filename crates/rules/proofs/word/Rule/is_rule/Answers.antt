@@ -40,4 +40,4 @@ returns c =
     let hop = at in
     let s = hop in
     rule_inside s.args.territory s.args.word _ _ _ at.address-address.ensures at.length-length.ensures last.cleared.ensures
-    _ s.requires (omega (arith, hop.if-hop-lt1.false)) (omega (arith, hop.if-hop-gt-LAST_HOP.false)) (omega arith) (omega arith) c.if-cleared-address.false c.cleared-2.ensures
+    _ s.requires (omega arith) (omega arith) (omega arith) (omega arith) c.if-cleared-address.false c.cleared-2.ensures
