@@ -5,9 +5,9 @@ use native.Mathlib.Omega.{arith}
 use Rattle.prefix.specs.Routes.{puts}
 use Rattle.cells.specs.Memory.{lent_of}
 use Rattle.rules.specs.Words.{route_by}
-use Rattle.updates.specs.Effects.{effect, retabled}
+use Rattle.updates.specs.Effects.{retabled}
 use Rattle.updates.specs.inner.Steps.{Puttable}
-use Rattle.updates.proofs.Outcomes.{refuses, accepts}
+use Rattle.updates.proofs.Outcomes.{accepts}
 use Rattle.updates.proofs.put.put_checked.Goals as goal
 
 pub paint_route-cells-requires : goal.paint_route-cells-requires
