@@ -7,7 +7,7 @@ pub loop-i-init : goal.loop-i-init
 loop-i-init c = pass_none
 
 pub offset_bounds-first-answers : goal.offset_bounds-first-answers
-offset_bounds-first-answers c = omega (arith, c.slice_known-in-loop-i-1.given c.loop-i.i)
+offset_bounds-first-answers c = omega (arith, c.type_inv.answers c.loop-i.i)
 
 pub bounds-first-answers : goal.bounds-first-answers
 bounds-first-answers c =

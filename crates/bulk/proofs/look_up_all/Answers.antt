@@ -58,5 +58,5 @@ returns c =
     let e = room-each in
     answered s.first.now s.long.now s.territory s.addresses.now s.answers.now (l, e)
     (passes_all s.first.now s.long.now s.territory s.addresses.now s.answers.now l
-    (omega (arith, start.well_formed)) (λ i h. omega (arith, known.shared_slice_known-3-1.given i)) e
+    (omega (arith, start.well_formed)) (λ i h. omega (arith, c.type_inv.addresses i)) e
     placing.places.ensures fetching.fetch.ensures judging.judge.ensures)
