@@ -70,9 +70,9 @@ segment_sound? tables block s =
 -- ---- blocks
 
 -- of a block whose cell is a pointer the segment is sound and the block is open; of any other the cell is clean and the block is closed
-pub record SoundBy (tables : Tables) (block : ℕ) (open-now : Bool) : Type 0 where
-  pub pointer : pointer_bit ≤ get_or tables.first block 0 → SegmentSound tables block (segment_of (get_or tables.first block 0)) × (open-now ≡ true)
-  pub other : get_or tables.first block 0 < pointer_bit → Clean width (get_or tables.first block 0) × (open-now ≡ false)
+pub record SoundBy (tables : Tables) (block : ℕ) (open_now : Bool) : Type 0 where
+  pub pointer : pointer_bit ≤ get_or tables.first block 0 → SegmentSound tables block (segment_of (get_or tables.first block 0)) × (open_now ≡ true)
+  pub other : get_or tables.first block 0 < pointer_bit → Clean width (get_or tables.first block 0) × (open_now ≡ false)
 
 abbrev pub BlockSound : Prefix → List Route → Tables → ℕ → Type 0
 BlockSound t rs tables block = SoundBy tables block (is_open rs (block_start t block))
@@ -85,11 +85,11 @@ false? : (b : Bool) → Decides (b ≡ false) (not b)
 false? true = fails true≢false
 false? false = holds refl
 
-pub sound_by? : (tables : Tables) (block : ℕ) (open-now : Bool) → Decides (SoundBy tables block open-now) (sound_by tables block open-now)
+pub sound_by? : (tables : Tables) (block : ℕ) (open_now : Bool) → Decides (SoundBy tables block open_now) (sound_by tables block open_now)
 unfolding sound_by
-sound_by? tables block open-now =
+sound_by? tables block open_now =
     iff?
-    (go (leb? pointer_bit cell) (and? (segment_sound? tables block (segment_of cell)) (true? open-now)) (and? (is_clean? width cell) (false? open-now)))
+    (go (leb? pointer_bit cell) (and? (segment_sound? tables block (segment_of cell)) (true? open_now)) (and? (is_clean? width cell) (false? open_now)))
     (λ h. record { pointer = h.0; other = λ l. h.1 (λ p. omega arith) })
     (λ b. (b.pointer, λ n. b.other (lt_of_not-le n)))
   where

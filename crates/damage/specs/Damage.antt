@@ -19,12 +19,12 @@ segment_sound tables block s =
     ltb s (length tables.owners) && eqb (get_or tables.owners s 0) (block + 1)
     && every_below block_size (λ i. is_clean 32 (get_or tables.long (s * block_size + i) 0))
 
--- the block's first cell is a pointer to a sound segment, and open-now says that a live prefix longer than 24 lies in the block; or the
+-- the block's first cell is a pointer to a sound segment, and open_now says that a live prefix longer than 24 lies in the block; or the
 -- cell is 0 or direct, and none does
 unfoldable pub sound_by : Tables → ℕ → Bool → Bool
-sound_by tables block open-now =
+sound_by tables block open_now =
     let cell = get_or tables.first block 0 in
-    cond (is_pointer cell) (segment_sound tables block (segment_of cell) && open-now) (is_clean width cell && not open-now)
+    cond (is_pointer cell) (segment_sound tables block (segment_of cell) && open_now) (is_clean width cell && not open_now)
 
 -- the block is sound, with the routes rs live
 unfoldable pub block_sound : Prefix → List Route → Tables → ℕ → Bool

@@ -51,7 +51,6 @@ fn paint_route(
 }
 
 // A refusal as it was checked; else what was checked says where the route stands among the rules, or would stand.
-#[tactic(auto, using(crate::proofs::Outcomes::refuses))]
 pub fn put_checked(
     first: &mut [u32],
     long: &mut [u32],

@@ -11,8 +11,7 @@ offset_bounds-first-answers c = omega (arith, c.type_inv.answers c.loop-i.i)
 
 pub bounds-first-answers : goal.bounds-first-answers
 bounds-first-answers c =
-    let turn = c in
-    omega (arith, pass_left turn.loop-i.invariant, turn.requires.in_table turn.loop-i.i (omega arith))
+    omega (arith, pass_left c.loop-i.invariant, c.requires.in_table c.loop-i.i (omega arith))
 
 pub loop-i-preserved : goal.loop-i-preserved
 loop-i-preserved c = pass_more c.loop-i.invariant c.fetched.ensures

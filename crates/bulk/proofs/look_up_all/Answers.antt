@@ -47,16 +47,10 @@ returns c =
     let zero : c.standing.result ≡ 0 = omega arith in (stands c.standing.ensures zero).lent in
     let room-each : let s = c.args in length s.addresses.now ≡ length s.answers.now =
     omega arith in
-    let judging = c in
-    let fetching = judging in
-    let placing = fetching in
-    let passed = placing in
-    let known = passed in
-    let start = known in
-    let s = start.args in
+    let s = c.args in
     let l = may_read in
     let e = room-each in
     answered s.first.now s.long.now s.territory s.addresses.now s.answers.now (l, e)
     (passes_all s.first.now s.long.now s.territory s.addresses.now s.answers.now l
-    (omega (arith, start.well_formed)) (λ i h. omega (arith, c.type_inv.addresses i)) e
-    placing.places.ensures fetching.fetch.ensures judging.judge.ensures)
+    (omega (arith, c.well_formed)) (λ i h. omega (arith, c.type_inv.addresses i)) e
+    c.places.ensures c.fetch.ensures c.judge.ensures)

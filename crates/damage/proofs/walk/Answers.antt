@@ -22,39 +22,34 @@ loop-block-init c = (record { forward = omega arith; cursor = c.requires.cursor;
 
 pub block_start-start-requires : goal.block_start-start-requires
 block_start-start-requires c =
-    let s = c in
-    start_within s.requires.sized (omega (arith, s.well_formed)) c.loop-block.block (omega (arith, s.requires.lent.all))
+    start_within c.requires.sized (omega (arith, c.well_formed)) c.loop-block.block (omega (arith, c.requires.lent.all))
 
 pub stretch-closed-requires : goal.stretch-closed-requires
 stretch-closed-requires c =
-    let s = c in
     let l = c.loop-block in
-    record { listed = s.requires.listed; cursor_at = subst (λ (a : ℕ). CursorAt s.args.rules.now s.args.used a l.here) (sym c.block_start-start.ensures) l.invariant.0.cursor }
+    record { listed = c.requires.listed; cursor_at = subst (λ (a : ℕ). CursorAt c.args.rules.now c.args.used a l.here) (sym c.block_start-start.ensures) l.invariant.0.cursor }
 
 pub clean_run-requires : goal.clean_run-requires
 clean_run-requires c = omega (arith, c.stretch-closed.ensures.within, c.requires.lent.all)
 
 pub returns-then-not-clean_run : goal.returns-then-not-clean_run
 returns-then-not-clean_run c =
-    let s = c in
     let l = c.loop-block in
     sym (stops (sound_run? _ _ _ _) (λ all.
     if_not (clean_run? _ _ _ _) c.clean_run.ensures (ap not c.if-not-clean_run.true)
-    (clean_run_lem s.requires.sized s.requires.listed l.invariant.0 c.block_start-start.ensures c.stretch-closed.ensures (λ j m k. all j (omega arith) (omega arith)))))
+    (clean_run_lem c.requires.sized c.requires.listed l.invariant.0 c.block_start-start.ensures c.stretch-closed.ensures (λ j m k. all j (omega arith) (omega arith)))))
 
 pub returns-then-stop-end : goal.returns-then-stop-end
 returns-then-stop-end c =
     let clean : CleanRun width c.args.first.now c.loop-block.block c.stretch-closed.result =
     if_so (clean_run? _ _ _ _) c.clean_run.ensures (ap not c.if-not-clean_run.false) in
-    let s = c in
     sym (passes (sound_run? _ _ _ _) (λ k m j.
-    sound_run_lem s.requires.sized s.requires.listed c.loop-block.invariant.0 c.block_start-start.ensures c.stretch-closed.ensures clean k m (omega arith)))
+    sound_run_lem c.requires.sized c.requires.listed c.loop-block.invariant.0 c.block_start-start.ensures c.stretch-closed.ensures clean k m (omega arith)))
 
 -- past the second, the block after it has a cell
 pub block_start-next-requires : goal.block_start-next-requires
 block_start-next-requires c =
-    let s = c in
-    start_within s.requires.sized (omega (arith, s.well_formed)) (c.loop-block.block + c.stretch-closed.result) (omega (arith, s.requires.lent.all, c.stretch-closed.ensures.within))
+    start_within c.requires.sized (omega (arith, c.well_formed)) (c.loop-block.block + c.stretch-closed.result) (omega (arith, c.requires.lent.all, c.stretch-closed.ensures.within))
 
 pub pass-cursor-requires : goal.pass-cursor-requires
 pass-cursor-requires c =
@@ -67,8 +62,7 @@ pass-cursor-requires c =
         omega (
           arith,
           c.block_start-next.ensures,
-          (let s = c in
-              start_within s.requires.sized (omega (arith, s.well_formed)) (c.loop-block.block + c.stretch-closed.result) (omega (arith, s.requires.lent.all, c.stretch-closed.ensures.within))),
+          (start_within c.requires.sized (omega (arith, c.well_formed)) (c.loop-block.block + c.stretch-closed.result) (omega (arith, c.requires.lent.all, c.stretch-closed.ensures.within))),
         ),
       );
     }
@@ -81,21 +75,19 @@ block_sound-requires c =
 
 pub returns-then-not-block_sound : goal.returns-then-not-block_sound
 returns-then-not-block_sound c =
-    let s = c in
     let l = c.loop-block in
     let stop : ℕ = l.block + c.stretch-closed.result in
     sym (stops (sound_run? _ _ _ _) (λ all.
     if_not (sound_by? _ _ _) c.block_sound.ensures (ap not c.if-not-block_sound.true)
-    (sound_here s.requires.sized s.requires.listed l.invariant.0 c.block_start-start.ensures c.stretch-closed.ensures c.block_start-next.ensures c.pass-cursor.ensures
+    (sound_here c.requires.sized c.requires.listed l.invariant.0 c.block_start-start.ensures c.stretch-closed.ensures c.block_start-next.ensures c.pass-cursor.ensures
     (all stop (omega (arith, l.invariant.0.forward)) (omega (arith, c.stretch-closed.ensures.within))))))
 
 pub loop-block-preserved : goal.loop-block-preserved
 loop-block-preserved c =
     let clean : CleanRun width c.args.first.now c.loop-block.block c.stretch-closed.result =
     if_so (clean_run? _ _ _ _) c.clean_run.ensures (ap not c.if-not-clean_run.false) in
-    let s = c in
     let l = c.loop-block in (
-      walked_on s.requires.sized s.requires.listed l.invariant.0 c.block_start-start.ensures c.stretch-closed.ensures c.block_start-next.ensures c.pass-cursor.ensures
+      walked_on c.requires.sized c.requires.listed l.invariant.0 c.block_start-start.ensures c.stretch-closed.ensures c.block_start-next.ensures c.pass-cursor.ensures
           (omega arith) clean
           (if_so (sound_by? _ _ _) c.block_sound.ensures (ap not c.if-not-block_sound.false)),
       search rules,

@@ -37,10 +37,8 @@ enter_all-requires c =
 
 pub returns : goal.returns
 returns c =
-    let done = c in
-    let asked = done in
-    let s = asked.args in
-    let yes = has_answered s.first.now s.long.now s.territory s.addresses.now s.codes.now asked.look_up_all.ensures (omega arith) in
+    let s = c.args in
+    let yes = has_answered s.first.now s.long.now s.territory s.addresses.now s.codes.now c.look_up_all.ensures (omega arith) in
     booked_each s.first.now s.long.now s.territory s.addresses.now s.amounts.now s.codes.now s.octets.now
     ((omega arith, omega arith), yes.0)
-    (done.enter_all.ensures ∙ ap (λ (l : List ℕ). enter_each l s.amounts.now s.octets.now) yes.1)
+    (c.enter_all.ensures ∙ ap (λ (l : List ℕ). enter_each l s.amounts.now s.octets.now) yes.1)

@@ -12,16 +12,14 @@ returns-then-refused-ne0 c =
 
 pub returns-then-word-gt-MOST : goal.returns-then-word-gt-MOST
 returns-then-word-gt-MOST c =
-    let k = c in
-    let s = k.args in
-    let passed : refusal_of s.answer.code ≡ 0 = omega (arith, k.refusal_of-refused.ensures) in
+    let s = c.args in
+    let passed : refusal_of s.answer.code ≡ 0 = omega (arith, c.refusal_of-refused.ensures) in
     too_much s.answer s.amount s.octets.now passed (omega arith)
 
 pub returns-then-word-amount : goal.returns-then-word-amount
 returns-then-word-amount c =
-    let k = c in
-    let s = k.args in
-    let passed : refusal_of s.answer.code ≡ 0 = omega (arith, k.refusal_of-refused.ensures) in
+    let s = c.args in
+    let passed : refusal_of s.answer.code ≡ 0 = omega (arith, c.refusal_of-refused.ensures) in
     too_much s.answer s.amount s.octets.now passed (omega arith)
 
 pub overflow_add-octets : goal.overflow_add-octets
@@ -29,7 +27,6 @@ overflow_add-octets c = omega arith
 
 pub returns : goal.returns
 returns c =
-    let k = c in
-    let s = k.args in
-    let passed : refusal_of s.answer.code ≡ 0 = omega (arith, k.refusal_of-refused.ensures) in
+    let s = c.args in
+    let passed : refusal_of s.answer.code ≡ 0 = omega (arith, c.refusal_of-refused.ensures) in
     entered s.answer s.amount s.octets.now passed _ (omega arith) (omega arith)

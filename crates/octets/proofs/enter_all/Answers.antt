@@ -14,23 +14,19 @@ loop-i-init c = (omega arith, going_none)
 
 pub enter-requires : goal.enter-requires
 enter-requires c =
-    let turn = c in
-    let pre = turn.requires in
+    let pre = c.requires in
     let hop = ap (λ (r : Answer). r.hop) c.unpack.ensures in
-    let here : turn.loop-i.i < length turn.args.codes.now = omega (arith, turn.loop-i.invariant.1.long) in
-    (turn.loop-i.invariant.0, omega (arith, hop, going_at turn.loop-i.invariant.1 here, pre.hops_fit turn.loop-i.i here))
+    let here : c.loop-i.i < length c.args.codes.now = omega (arith, c.loop-i.invariant.1.long) in
+    (c.loop-i.invariant.0, omega (arith, hop, going_at c.loop-i.invariant.1 here, pre.hops_fit c.loop-i.i here))
 
 pub loop-i-preserved : goal.loop-i-preserved
 loop-i-preserved c =
-    let entering = c in
-    let unpacking = entering in
-    let turn = unpacking in
     let said =
-    entering.enter.ensures
-    ∙ ap (λ (r : Answer). enter r (get_or turn.args.amounts.now turn.loop-i.i 0) turn.loop-i.octets)
-    unpacking.unpack.ensures in (
-      enter_long _ _ _ said ∙ turn.loop-i.invariant.0,
-      going_more turn.loop-i.invariant.1 _ said (omega (arith, turn.loop-i.invariant.1.long)) (omega (arith, turn.loop-i.invariant.1.long)),
+    c.enter.ensures
+    ∙ ap (λ (r : Answer). enter r (get_or c.args.amounts.now c.loop-i.i 0) c.loop-i.octets)
+    c.unpack.ensures in (
+      enter_long _ _ _ said ∙ c.loop-i.invariant.0,
+      going_more c.loop-i.invariant.1 _ said (omega (arith, c.loop-i.invariant.1.long)) (omega (arith, c.loop-i.invariant.1.long)),
     )
 
 pub returns : goal.returns

@@ -34,11 +34,10 @@ put_u16-requires-2 c =
 
 pub returns : goal.returns
 returns c =
-    let s = c in
-    let u = s.args.update in
+    let u = c.args.update in
     let started = set (set c.put_u16.new.room 2 1) 3 u.kind in
     let serial = by_bytes c.put_u32.new.room started 4 u.serial _ _ _ _ c.put_u32.ensures
     (omega arith) (omega arith) (omega arith) (omega arith) in
     let address = by_bytes c.put_u32-2.new.room c.put_u32.new.room 8 u.address _ _ _ _ c.put_u32-2.ensures
     (omega arith) (omega arith) (omega arith) (omega arith) in
-    stored u s.args.room.now _ _ _ _ s.requires c.put_u16.ensures serial address c.put_u16-2.ensures
+    stored u c.args.room.now _ _ _ _ c.requires c.put_u16.ensures serial address c.put_u16-2.ensures

@@ -21,8 +21,5 @@ returns-then-has_stray_hop c =
 
 pub returns : goal.returns
 returns c =
-    let p = c in
-    let h = p in
-    let k = h in
-    let s = k.args in
-    fills s.room.now s.update (omega (arith, k.if-room-lt-SIZE.false)) (sym (ap not k.is_known.ensures) ∙ (ap not h.if-not-is_known.false)) p.put.new.room (sym h.has_stray_hop.ensures ∙ h.if-has_stray_hop.false) p.put.ensures
+    let s = c.args in
+    fills s.room.now s.update (omega (arith, c.if-room-lt-SIZE.false)) (sym (ap not c.is_known.ensures) ∙ (ap not c.if-not-is_known.false)) c.put.new.room (sym c.has_stray_hop.ensures ∙ c.if-has_stray_hop.false) c.put.ensures

@@ -16,7 +16,7 @@ pub record StretchIs (ws : List ℕ) (n at a left k : ℕ) : Type 0 where
   pub within : k ≤ left
   pub cursor : CursorAt ws n (a + block_size * k) at
 
--- past the rules of the block that starts at a stands `next`, and open-now says whether the block is open
-pub record PassedIs (ws : List ℕ) (n a next : ℕ) (open-now : Bool) : Type 0 where
+-- past the rules of the block that starts at a stands `next`, and open_now says whether the block is open
+pub record PassedIs (ws : List ℕ) (n a next : ℕ) (open_now : Bool) : Type 0 where
   pub cursor : CursorAt ws n (a + block_size) next
-  pub opened : open-now ≡ is_open (routes ws) a
+  pub opened : open_now ≡ is_open (routes ws) a

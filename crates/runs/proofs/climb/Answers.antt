@@ -33,14 +33,12 @@ pub shared-length-requires : goal.shared-length-requires
 shared-length-requires c =
     let turns : let s = c.args in match_or_none s.rules.now s.address c.loop-length.i ≡ false =
     sym c.is_match_or_none.ensures ∙ c.loop-length-test.true in
-    let s = c in
     let inv = c.loop-length.invariant in
-    (climb_length s.requires.listed inv turns s.ranges.address.fits, inv.short)
+    (climb_length c.requires.listed inv turns c.ranges.address.fits, inv.short)
 
 pub up_to_before-i-requires : goal.up_to_before-i-requires
 up_to_before-i-requires c =
-    let at-loop = c in
-    let s = at-loop.requires.listed in record { listed = s; length_fits = omega (arith, c.shared-length.ensures.below, at-loop.loop-length.invariant.short); bracket = climb_back s at-loop.loop-length.invariant c.shared-length.result (omega (arith, c.shared-length.ensures.below)) }
+    let s = c.requires.listed in record { listed = s; length_fits = omega (arith, c.shared-length.ensures.below, c.loop-length.invariant.short); bracket = climb_back s c.loop-length.invariant c.shared-length.result (omega (arith, c.shared-length.ensures.below)) }
 
 pub loop-length-smaller : goal.loop-length-smaller
 loop-length-smaller c = c.shared-length.ensures.below
@@ -49,10 +47,9 @@ pub loop-length-preserved : goal.loop-length-preserved
 loop-length-preserved c =
     let turns : let s = c.args in match_or_none s.rules.now s.address c.loop-length.i ≡ false =
     sym c.is_match_or_none.ensures ∙ c.loop-length-test.true in
-    let s = c in
     let at = c.loop-length in
-    climb_more s.requires.listed at.invariant turns
-    (subst (λ (b : ℕ). SharedIs s.args.address b at.length c.shared-length.result) c.address.ensures c.shared-length.ensures)
+    climb_more c.requires.listed at.invariant turns
+    (subst (λ (b : ℕ). SharedIs c.args.address b at.length c.shared-length.result) c.address.ensures c.shared-length.ensures)
     c.up_to_before-i.ensures
 
 pub returns : goal.returns

@@ -23,8 +23,7 @@ bounds-rules-i c = omega (arith, listed_within c.requires.listed)
 
 pub contains-requires : goal.contains-requires
 contains-requires c =
-    let s = c in
-    omega (arith, listed_short s.requires.listed (s.args.i - 1) (omega arith), ap (λ (p : Prefix). p.length) c.prefix-prefix.ensures)
+    omega (arith, listed_short c.requires.listed (c.args.i - 1) (omega arith), ap (λ (p : Prefix). p.length) c.prefix-prefix.ensures)
 
 pub returns : goal.returns
 unfolding match_or_none

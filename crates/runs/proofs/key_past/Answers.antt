@@ -8,9 +8,8 @@ use Rattle.runs.proofs.key_past.Goals as goal
 
 pub overflow_add-result : goal.overflow_add-result
 overflow_add-result c =
-    let s = c in
     let at = c.cleared in
-    omega (arith, c.key_of.ensures, key_room (record { address = at.result; length = s.args.length }) s.requires (omega (arith, at.type_inv)))
+    omega (arith, c.key_of.ensures, key_room (record { address = at.result; length = c.args.length }) c.requires (omega (arith, at.type_inv)))
 
 pub returns : goal.returns
 returns c =

@@ -7,8 +7,7 @@ use Rattle.runs.proofs.longest.Goals as goal
 
 pub returns-then-i-eq0 : goal.returns-then-i-eq0
 returns-then-i-eq0 c =
-    let s = c in
-    run_none s.args.address s.requires c.up_to-first.ensures c.next-limit.ensures s.ranges.address.fits
+    run_none c.args.address c.requires c.up_to-first.ensures c.next-limit.ensures c.ranges.address.fits
     (c.climb-i.ensures.none c.if-i-eq0.true)
 
 pub offset_bounds-rules-i : goal.offset_bounds-rules-i
@@ -24,7 +23,6 @@ run_of-requires c =
 
 pub returns : goal.returns
 returns c =
-    let s = c in
     let e = c.run_of.ensures in
-    run_found s.args.address s.requires c.up_to-first.ensures c.next-limit.ensures _ _ _ _
+    run_found c.args.address c.requires c.up_to-first.ensures c.next-limit.ensures _ _ _ _
     (c.climb-i.ensures.found (omega arith)) e.is e.reach e.ends e.counted

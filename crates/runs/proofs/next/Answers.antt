@@ -8,9 +8,8 @@ use Rattle.runs.proofs.next.Goals as goal
 
 pub returns-then-first-used : goal.returns-then-first-used
 returns-then-first-used c =
-    let s = c in
-    let none : s.args.first ≡ s.args.used = omega (arith, c.if-first-used.true) in
-    next_none s.args.address s.requires.listed s.requires.count_up_to none s.ranges.address.fits
+    let none : c.args.first ≡ c.args.used = omega (arith, c.if-first-used.true) in
+    next_none c.args.address c.requires.listed c.requires.count_up_to none c.ranges.address.fits
 
 pub offset_bounds-rules-first : goal.offset_bounds-rules-first
 offset_bounds-rules-first c = omega (arith, listed_within c.requires.listed, c.requires.count_up_to.within)
@@ -20,5 +19,4 @@ bounds-rules-first c = omega (arith, listed_within c.requires.listed, c.requires
 
 pub returns : goal.returns
 returns c =
-    let s = c in
-    next_some s.args.address s.requires.listed s.requires.count_up_to (omega arith) (omega (arith, c.address.type_inv, c.address.ensures)) (omega (arith, c.address.ensures))
+    next_some c.args.address c.requires.listed c.requires.count_up_to (omega arith) (omega (arith, c.address.type_inv, c.address.ensures)) (omega (arith, c.address.ensures))

@@ -6,20 +6,18 @@ use Rattle.runs.proofs.shared.Goals as goal
 
 pub returns-then-bits-limit : goal.returns-then-bits-limit
 returns-then-bits-limit c =
-    let s = c in
-    let a = s.args in
+    let a = c.args in
     record {
       below = omega arith;
-      agree = agree_to a.address a.other s.ranges.address.fits s.ranges.other.fits _ (omega arith);
-      largest = λ k low high. apart_from a.address a.other s.ranges.address.fits s.ranges.other.fits k low (omega arith);
+      agree = agree_to a.address a.other c.ranges.address.fits c.ranges.other.fits _ (omega arith);
+      largest = λ k low high. apart_from a.address a.other c.ranges.address.fits c.ranges.other.fits k low (omega arith);
     }
 
 pub returns : goal.returns
 returns c =
-    let s = c in
-    let a = s.args in
+    let a = c.args in
     record {
       below = omega arith;
-      agree = agree_to a.address a.other s.ranges.address.fits s.ranges.other.fits _ (omega arith);
+      agree = agree_to a.address a.other c.ranges.address.fits c.ranges.other.fits _ (omega arith);
       largest = λ k low high. absurd (omega arith);
     }

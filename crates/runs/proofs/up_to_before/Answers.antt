@@ -8,8 +8,7 @@ use Rattle.runs.proofs.up_to_before.Goals as goal
 
 pub position_before-requires : goal.position_before-requires
 position_before-requires c =
-    let s = c in
-    record { listed = s.requires.listed; bracket = subst (λ (k : ℕ). Bracket s.args.rules.now s.args.used k 0 s.args.from) (sym c.key_past.ensures) s.requires.bracket }
+    record { listed = c.requires.listed; bracket = subst (λ (k : ℕ). Bracket c.args.rules.now c.args.used k 0 c.args.from) (sym c.key_past.ensures) c.requires.bracket }
 
 pub returns : goal.returns
 returns c = at_key c.position_before.ensures c.key_past.ensures

@@ -7,16 +7,10 @@ use Rattle.stream.proofs.take_record.Goals as goal
 
 pub returns-then-reading-ne0 : goal.returns-then-reading-ne0
 returns-then-reading-ne0 c =
-    let k = c in
-    let s = k in
-    let refused : ¬ (k.read-reading.result.code ≡ 0) = omega (arith, c.if-reading-ne0.true) in
-    turn_refused s.args.territory s.args.bytes.now s.args.expected (lent_of s.args.first.now s.args.long.now s.args.owners.now s.args.rules.now) k.read-reading.ensures refused
+    let refused : ¬ (c.read-reading.result.code ≡ 0) = omega (arith, c.if-reading-ne0.true) in
+    turn_refused c.args.territory c.args.bytes.now c.args.expected (lent_of c.args.first.now c.args.long.now c.args.owners.now c.args.rules.now) c.read-reading.ensures refused
 
 pub returns : goal.returns
 returns c =
-    let done = c in
-    let test = done in
-    let k = test in
-    let s = k in
-    let zero : k.read-reading.result.code ≡ 0 = omega (arith, test.if-reading-ne0.false) in
-    turn_taken s.args.territory s.args.bytes.now s.args.expected (lent_of s.args.first.now s.args.long.now s.args.owners.now s.args.rules.now) k.read-reading.ensures zero done.take_update-report.ensures
+    let zero : c.read-reading.result.code ≡ 0 = omega (arith, c.if-reading-ne0.false) in
+    turn_taken c.args.territory c.args.bytes.now c.args.expected (lent_of c.args.first.now c.args.long.now c.args.owners.now c.args.rules.now) c.read-reading.ensures zero c.take_update-report.ensures

@@ -21,7 +21,7 @@ pub overflow_add-to : goal.overflow_add-to
 overflow_add-to c =
     let ready : let a = c.args in
     BlocksReady a.territory a.blocks.from (a.blocks.from + a.blocks.count) (tables_of a.first.now a.long.now a.owners.now) =
-    let s = c in blocks_ready s.requires.repaintable.ready c.if-length-le-WIDTH.true s.requires.touched_blocks in
+    blocks_ready c.requires.repaintable.ready c.if-length-le-WIDTH.true c.requires.touched_blocks in
     omega (arith, ready.within, few_firsts ready.sized)
 
 pub unpaint_blocks-tally-requires : goal.unpaint_blocks-tally-requires
@@ -31,30 +31,25 @@ unpaint_blocks-tally-requires c =
     let ready : let a = c.args in
     BlocksReady a.territory a.blocks.from (a.blocks.from + a.blocks.count) (tables_of a.first.now a.long.now a.owners.now) =
     let s = c in blocks_ready s.requires.repaintable.ready c.if-length-le-WIDTH.true s.requires.touched_blocks in
-    let k = c in
-    let s = k in
-    let pre = s.requires.repaintable.ready in
-    let start = starts pre.sized.territory pre.formed pre.inside k.if-length-le-WIDTH.true in
-    record { blocks_ready = ready; asking = record { listed = s.requires.listed; kept = kept_later (omega (arith, from)) k.longest-run.ensures.kept } }
+    let pre = c.requires.repaintable.ready in
+    let start = starts pre.sized.territory pre.formed pre.inside c.if-length-le-WIDTH.true in
+    record { blocks_ready = ready; asking = record { listed = c.requires.listed; kept = kept_later (omega (arith, from)) c.longest-run.ensures.kept } }
 
 pub returns-then-length-le-WIDTH : goal.returns-then-length-le-WIDTH
 returns-then-length-le-WIDTH c =
-    let at-unpaint = c in
-    let k = at-unpaint in
-    let s = k in
-    blocks-repainted s.requires.repaintable.ready k.if-length-le-WIDTH.true s.requires.touched_blocks _ at-unpaint.unpaint_blocks-tally.ensures.blocks
+    blocks-repainted c.requires.repaintable.ready c.if-length-le-WIDTH.true c.requires.touched_blocks _ c.unpaint_blocks-tally.ensures.blocks
 
 pub offset_bounds-first-block : goal.offset_bounds-first-block
 offset_bounds-first-block c =
     let from : c.args.blocks.from ≡ block_of c.args.territory c.args.prefix.address =
     ap (λ (x : Blocks). x.from) c.requires.touched_blocks in
-    let s = c in omega (arith, block_lent s.requires.repaintable.ready from, few_firsts s.requires.repaintable.ready.sized)
+    omega (arith, block_lent c.requires.repaintable.ready from, few_firsts c.requires.repaintable.ready.sized)
 
 pub bounds-first-block : goal.bounds-first-block
 bounds-first-block c =
     let from : c.args.blocks.from ≡ block_of c.args.territory c.args.prefix.address =
     ap (λ (x : Blocks). x.from) c.requires.touched_blocks in
-    let s = c in omega (arith, block_lent s.requires.repaintable.ready from)
+    omega (arith, block_lent c.requires.repaintable.ready from)
 
 pub segment-requires : goal.segment-requires
 segment-requires c =
@@ -70,9 +65,8 @@ prefix_cells-range-requires c =
     ap (λ (x : Blocks). x.from) c.requires.touched_blocks in
     let open_block : let a = c.args in Closable a.territory a.prefix (tables_of a.first.now a.long.now a.owners.now) =
     closable c.requires.repaintable c.if-length-le-WIDTH.false in
-    let k = c in
     let lent = (owns open_block from).lent in
-    record { segment_fits = omega (arith, c.segment.ensures, open_block.ready.sized.few); is_long = (omega (arith, k.if-length-le-WIDTH.false), open_block.ready.formed.short) }
+    record { segment_fits = omega (arith, c.segment.ensures, open_block.ready.sized.few); is_long = (omega (arith, c.if-length-le-WIDTH.false), open_block.ready.formed.short) }
 
 pub unpaint_run-tally-requires : goal.unpaint_run-tally-requires
 unpaint_run-tally-requires c =
@@ -80,11 +74,8 @@ unpaint_run-tally-requires c =
     ap (λ (x : Blocks). x.from) c.requires.touched_blocks in
     let open_block : let a = c.args in Closable a.territory a.prefix (tables_of a.first.now a.long.now a.owners.now) =
     closable c.requires.repaintable c.if-length-le-WIDTH.false in
-    let at-segment = c in
-    let k = at-segment in
-    let s = k in
     let run = c.prefix_cells-range.ensures in
-    let small = ends_within s.requires.repaintable.ready.formed (omega arith) in record { within = run_within open_block from at-segment.segment.ensures run; in_range = omega (arith, run.high, small); asking = record { listed = s.requires.listed; kept = k.longest-run.ensures.kept } }
+    let small = ends_within c.requires.repaintable.ready.formed (omega arith) in record { within = run_within open_block from c.segment.ensures run; in_range = omega (arith, run.high, small); asking = record { listed = c.requires.listed; kept = c.longest-run.ensures.kept } }
 
 pub returns : goal.returns
 returns c =
@@ -92,11 +83,7 @@ returns c =
     ap (λ (x : Blocks). x.from) c.requires.touched_blocks in
     let open_block : let a = c.args in Closable a.territory a.prefix (tables_of a.first.now a.long.now a.owners.now) =
     closable c.requires.repaintable c.if-length-le-WIDTH.false in
-    let at-run = c in
-    let at-segment = at-run in
-    let k = at-segment in
-    let s = k in
-    let run = at-run.prefix_cells-range.ensures in
-    let f = unpaint_cell s.args.prefix.length (routes s.args.rules.now) in
-    run_repainted open_block from at-segment.segment.ensures run f
-    (run_counted open_block from at-segment.segment.ensures run f at-run.unpaint_run-tally.ensures.changed)
+    let run = c.prefix_cells-range.ensures in
+    let f = unpaint_cell c.args.prefix.length (routes c.args.rules.now) in
+    run_repainted open_block from c.segment.ensures run f
+    (run_counted open_block from c.segment.ensures run f c.unpaint_run-tally.ensures.changed)

@@ -12,39 +12,34 @@ skip_closed-block-requires c = let ready = c.requires.blocks_ready in record { o
 
 pub loop-block-init : goal.loop-block-init
 loop-block-init c =
-    let s = c in
     let passed = c.skip_closed-block.ensures in (
       passed.skipped.low,
       passed.skipped.high,
       record {
-        blocks = blocks_passed s.args.length (routes s.args.rules.now) (blocks_none _ _ _ _) (le_refl _) passed;
-        kept = kept_later (omega (arith, passed.skipped.low)) s.requires.asking.kept;
+        blocks = blocks_passed c.args.length (routes c.args.rules.now) (blocks_none _ _ _ _) (le_refl _) passed;
+        kept = kept_later (omega (arith, passed.skipped.low)) c.requires.asking.kept;
       },
     )
 
 pub unpaint_some-part-requires : goal.unpaint_some-part-requires
 unpaint_some-part-requires c =
-    let at-loop = c in
-    let s = at-loop in
-    let inv = at-loop.loop-block.invariant in
-    record { blocks_ready = ready_then inv.2.blocks inv.0 inv.1 (le_refl _) s.requires.blocks_ready; some_blocks = omega arith; asking = record { listed = s.requires.asking.listed; kept = inv.2.kept } }
+    let inv = c.loop-block.invariant in
+    record { blocks_ready = ready_then inv.2.blocks inv.0 inv.1 (le_refl _) c.requires.blocks_ready; some_blocks = omega arith; asking = record { listed = c.requires.asking.listed; kept = inv.2.kept } }
 
 pub overflow_add-changed : goal.overflow_add-changed
 overflow_add-changed c =
     let turned = c.unpaint_some-part.ensures in
-    let at-loop = c in
-    let inv = at-loop.loop-block.invariant in
+    let inv = c.loop-block.invariant in
     let blocks = blocks_then inv.2.blocks inv.0 (omega (arith, turned.some)) turned.done.blocks in
-    record { fits = few_blocks blocks at-loop.requires.blocks_ready }
+    record { fits = few_blocks blocks c.requires.blocks_ready }
 
 pub skip_closed-block-requires-in-loop-block : goal.skip_closed-block-requires-in-loop-block
 skip_closed-block-requires-in-loop-block c =
     let turned = c.unpaint_some-part.ensures in
-    let at-loop = c in
-    let inv = at-loop.loop-block.invariant in
+    let inv = c.loop-block.invariant in
     record {
       ordered = turned.within;
-      inside = omega (arith, same_firsts turned.done.blocks, same_firsts inv.2.blocks, at-loop.requires.blocks_ready.within);
+      inside = omega (arith, same_firsts turned.done.blocks, same_firsts inv.2.blocks, c.requires.blocks_ready.within);
     }
 
 pub loop-block-smaller : goal.loop-block-smaller
@@ -56,9 +51,8 @@ loop-block-smaller c =
 pub loop-block-preserved : goal.loop-block-preserved
 loop-block-preserved c =
     let turned = c.unpaint_some-part.ensures in
-    let at-loop = c in
-    let inv = at-loop.loop-block.invariant in
-    let a = at-loop.args in
+    let inv = c.loop-block.invariant in
+    let a = c.args in
     let passed = c.skip_closed-block-in-loop-block.ensures in (
       omega (arith, inv.0, turned.some, passed.skipped.low),
       passed.skipped.high,

@@ -9,11 +9,10 @@ use Rattle.unpaint.proofs.unpaint_run.Goals as goal
 
 pub loop-i-init : goal.loop-i-init
 loop-i-init c =
-    let s = c in
     let passed = c.skip-i.ensures in (
-      part_none (start s.requires.within) passed.low passed.high
-          (skipped_run passed (routes s.args.rules.now) (λ (k : ℕ). s.args.start + (k - s.args.from))),
-      kept_later (omega arith) s.requires.asking.kept,
+      part_none (start c.requires.within) passed.low passed.high
+          (skipped_run passed (routes c.args.rules.now) (λ (k : ℕ). c.args.start + (k - c.args.from))),
+      kept_later (omega arith) c.requires.asking.kept,
     )
 
 pub run_at-kept-requires : goal.run_at-kept-requires
@@ -21,24 +20,21 @@ run_at-kept-requires c = record { listed = c.requires.asking.listed; kept = c.lo
 
 pub overflow_add-changed : goal.overflow_add-changed
 overflow_add-changed c =
-    let at-loop = c in
-    let all = at-loop.requires.within in
-    omega (arith, at-loop.loop-i.invariant.0.few, c.replace_run-changed.ensures.few, all.few, c.reach.ensures.few)
+    let all = c.requires.within in
+    omega (arith, c.loop-i.invariant.0.few, c.replace_run-changed.ensures.few, all.few, c.reach.ensures.few)
 
 pub loop-i-preserved : goal.loop-i-preserved
 loop-i-preserved c =
-    let at-loop = c in
-    let s = at-loop in
     let found = c.run_at-kept.ensures in
     let reached = c.reach.ensures in
     let replaced = c.replace_run-changed.ensures in
-    let passed = skipped_from {i = at-loop.loop-i.i + c.reach.result} c.skip-i-in-loop-i.ensures (omega arith) in
-    let address : ℕ → ℕ = λ k. s.args.start + (k - s.args.from) in (
+    let passed = skipped_from {i = c.loop-i.i + c.reach.result} c.skip-i-in-loop-i.ensures (omega arith) in
+    let address : ℕ → ℕ = λ k. c.args.start + (k - c.args.from) in (
       part_none
-          (part at-loop.loop-i.invariant.0 (omega arith) (omega (arith, reached.few))
-          (run_taken s.args.length address found.kept (λ k low high. (omega arith, omega (arith, reached.fit))) replaced.changed (omega arith))
+          (part c.loop-i.invariant.0 (omega arith) (omega (arith, reached.few))
+          (run_taken c.args.length address found.kept (λ k low high. (omega arith, omega (arith, reached.fit))) replaced.changed (omega arith))
           replaced.few)
-          passed.low passed.high (skipped_run passed (routes s.args.rules.now) address),
+          passed.low passed.high (skipped_run passed (routes c.args.rules.now) address),
       kept_later (omega (arith, passed.low, reached.some)) found.kept,
     )
 

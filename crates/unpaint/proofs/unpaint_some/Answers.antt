@@ -27,8 +27,7 @@ block_start-start-requires c =
 pub segment_cells-range-requires : goal.segment_cells-range-requires
 segment_cells-range-requires c =
     let owns : let a = c.args in let T = tables_of a.first.now a.long.now a.owners.now in Owns T a.block (segment_at T a.block) =
-    let s = c in
-    s.requires.blocks_ready.owned s.args.block (le_refl _) (omega arith) (leb-true _ _ (sym c.is_pointer.ensures ∙ c.if-is_pointer.true)) in
+    c.requires.blocks_ready.owned c.args.block (le_refl _) (omega arith) (leb-true _ _ (sym c.is_pointer.ensures ∙ c.if-is_pointer.true)) in
     omega (arith, owns.points)
 
 pub unpaint_run-tally-requires : goal.unpaint_run-tally-requires
@@ -40,28 +39,22 @@ unpaint_run-tally-requires c =
     let owns : let a = c.args in let T = tables_of a.first.now a.long.now a.owners.now in Owns T a.block (segment_at T a.block) =
     let s = c in
     s.requires.blocks_ready.owned s.args.block (le_refl _) (omega arith) (leb-true _ _ (sym c.is_pointer.ensures ∙ c.if-is_pointer.true)) in
-    let k = c in
-    let s = k in
-    let run = c.segment_cells-range.ensures in record { within = segment_within s.requires.blocks_ready.sized owns (omega (arith, run.low)) (omega (arith, run.high)) (omega (arith, run.low, run.high)); in_range = omega (arith, run.high, k.block_start-start.ensures, end); asking = asking }
+    let run = c.segment_cells-range.ensures in record { within = segment_within c.requires.blocks_ready.sized owns (omega (arith, run.low)) (omega (arith, run.high)) (omega (arith, run.low, run.high)); in_range = omega (arith, run.high, c.block_start-start.ensures, end); asking = asking }
 
 pub returns-then-is_pointer : goal.returns-then-is_pointer
 returns-then-is_pointer c =
     let owns : let a = c.args in let T = tables_of a.first.now a.long.now a.owners.now in Owns T a.block (segment_at T a.block) =
-    let s = c in
-    s.requires.blocks_ready.owned s.args.block (le_refl _) (omega arith) (leb-true _ _ (sym c.is_pointer.ensures ∙ c.if-is_pointer.true)) in
-    let at-run = c in
-    let at_cells = at-run in
-    let k = at_cells in
-    let a = k.args in
-    let cells = at_cells.segment_cells-range.ensures in
+    c.requires.blocks_ready.owned c.args.block (le_refl _) (omega arith) (leb-true _ _ (sym c.is_pointer.ensures ∙ c.if-is_pointer.true)) in
+    let a = c.args in
+    let cells = c.segment_cells-range.ensures in
     let run = run_addressed (unpaint_cell a.length (routes a.rules.now)) a.territory owns 0 (omega (arith, cells.low))
-    (omega (arith, cells.low, cells.high)) (omega (arith, k.block_start-start.ensures)) at-run.unpaint_run-tally.ensures.changed in
+    (omega (arith, cells.low, cells.high)) (omega (arith, c.block_start-start.ensures)) c.unpaint_run-tally.ensures.changed in
     record {
       some = omega arith;
-      within = omega (arith, k.requires.some_blocks);
+      within = omega (arith, c.requires.some_blocks);
       done = record {
         blocks = block_points _ _ owns (omega (arith, cells.low)) (omega (arith, cells.high)) run;
-        kept = kept_later (omega (arith, cells.high, k.block_start-start.ensures)) at-run.unpaint_run-tally.ensures.kept;
+        kept = kept_later (omega (arith, cells.high, c.block_start-start.ensures)) c.unpaint_run-tally.ensures.kept;
       };
     }
 
@@ -75,20 +68,17 @@ pub piece-stop-requires : goal.piece-stop-requires
 piece-stop-requires c =
     let direct : let a = c.args in get_or a.first.now a.block 0 < pointer_bit =
     leb-false _ _ (sym c.is_pointer.ensures ∙ c.if-is_pointer.false) in
-    let at-else = c in
-    let s = at-else in record { inside = record { ordered = omega arith; inside = s.requires.blocks_ready.within }; some_blocks = (omega arith, omega (arith, c.run_at-kept.ensures.past)); closed = closed_one s.args.block s.args.first.now direct }
+    record { inside = record { ordered = omega arith; inside = c.requires.blocks_ready.within }; some_blocks = (omega arith, omega (arith, c.run_at-kept.ensures.past)); closed = closed_one c.args.block c.args.first.now direct }
 
 pub replace_run-requires : goal.replace_run-requires
 replace_run-requires c =
     let piece = c.piece-stop.ensures in
-    let s = c in
-    record { ordered = omega (arith, piece.some); inside = omega (arith, piece.within, s.requires.blocks_ready.within); few = omega (arith, piece.few) }
+    record { ordered = omega (arith, piece.some); inside = omega (arith, piece.within, c.requires.blocks_ready.within); few = omega (arith, piece.few) }
 
 pub returns : goal.returns
 returns c =
-    let begin = c in
-    let a = begin.args in
-    let start = begin.block_start-start.ensures in
+    let a = c.args in
+    let start = c.block_start-start.ensures in
     let found = c.run_at-kept.ensures in
     let piece = c.piece-stop.ensures in
     record {

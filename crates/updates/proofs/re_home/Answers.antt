@@ -11,7 +11,4 @@ put_checked-requires c = re_home_puttable c.re_home_checked-checked.ensures
 
 pub returns : goal.returns
 returns c =
-    let done = c in
-    let k = done in
-    let s = k in
-    steps s.args.territory (re_homes (route_by s.args.prefix s.args.hop)) (lent_of s.args.first.now s.args.long.now s.args.owners.now s.args.rules.now) k.re_home_checked-checked.ensures.number done.put_checked.ensures
+    steps c.args.territory (re_homes (route_by c.args.prefix c.args.hop)) (lent_of c.args.first.now c.args.long.now c.args.owners.now c.args.rules.now) c.re_home_checked-checked.ensures.number c.put_checked.ensures

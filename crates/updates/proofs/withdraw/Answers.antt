@@ -10,7 +10,4 @@ take_checked-requires c = withdraw_takable c.withdraw_checked-checked.ensures
 
 pub returns : goal.returns
 returns c =
-    let done = c in
-    let k = done in
-    let s = k in
-    steps s.args.territory (withdraws s.args.prefix) (lent_of s.args.first.now s.args.long.now s.args.owners.now s.args.rules.now) k.withdraw_checked-checked.ensures.number done.take_checked.ensures
+    steps c.args.territory (withdraws c.args.prefix) (lent_of c.args.first.now c.args.long.now c.args.owners.now c.args.rules.now) c.withdraw_checked-checked.ensures.number c.take_checked.ensures

@@ -30,8 +30,7 @@ returns-then-unit-long c =
 
 pub overflow_mul-unit-2 : goal.overflow_mul-unit-2
 overflow_mul-unit-2 c =
-    let start = c in
-    omega (arith, c.blocks_of-blocks.ensures, few_blocks start.args.territory, mul-le-mul_right c.blocks_of-blocks.result start.requires.1)
+    omega (arith, c.blocks_of-blocks.ensures, few_blocks c.args.territory, mul-le-mul_right c.blocks_of-blocks.result c.requires.1)
 
 pub returns-then-first-unit : goal.returns-then-first-unit
 unfolding standing_of
@@ -60,14 +59,12 @@ returns-then-blocks-block_from c =
       whole_segments = omega arith;
       not_too_many = omega arith;
     } in
-    let tested = c in
-    let start = tested in
-    let s = start.args in
+    let s = c.args in
     let l = lent in
     sym (cond_on _ _ (lent_by? s.unit s.first s.long s.territory) l
     ∙ cond_off _ _ (contains? s.territory s.address)
-    (λ k. let below = below_blocks l.territory (omega (arith, start.well_formed)) (omega arith) k in
-    omega (arith, tested.blocks_of-blocks.ensures, c.block_from.ensures)))
+    (λ k. let below = below_blocks l.territory (omega (arith, c.well_formed)) (omega arith) k in
+    omega (arith, c.blocks_of-blocks.ensures, c.block_from.ensures)))
 
 pub returns : goal.returns
 unfolding standing_of
@@ -83,10 +80,8 @@ returns c =
       whole_segments = omega arith;
       not_too_many = omega arith;
     } in
-    let tested = c in
-    let start = tested in
-    let s = start.args in
+    let s = c.args in
     let l = lent in
     sym (cond_on _ _ (lent_by? s.unit s.first s.long s.territory) l
     ∙ cond_on _ _ (contains? s.territory s.address)
-    (is_inside l.territory (omega (arith, start.well_formed)) (omega arith) (omega (arith, tested.blocks_of-blocks.ensures, c.block_from.ensures))))
+    (is_inside l.territory (omega (arith, c.well_formed)) (omega arith) (omega (arith, c.blocks_of-blocks.ensures, c.block_from.ensures))))

@@ -50,10 +50,9 @@ returns-then-not-is_pointer c =
     get_or s.first.now c.block_of-block.result 0 ≡ first_cell s.first.now s.territory s.address =
     ap (λ k. get_or c.args.first.now k 0) c.block_of-block.ensures in
     let s = c.args in
-    let known = c in
-    let direct = if_not (leb? pointer_bit (get_or s.first.now known.block_of-block.result 0)) c.is_pointer.ensures (ap not c.if-not-is_pointer.true) in
-    part_on (seen s.first) known.block_of-block.result 1
-    ∙ ap (λ k. part (seen s.first) k 1) known.block_of-block.ensures
+    let direct = if_not (leb? pointer_bit (get_or s.first.now c.block_of-block.result 0)) c.is_pointer.ensures (ap not c.if-not-is_pointer.true) in
+    part_on (seen s.first) c.block_of-block.result 1
+    ∙ ap (λ k. part (seen s.first) k 1) c.block_of-block.ensures
     ∙ shown_cell (seen s.first) (seen s.long) s.territory s.address zero (λ p. direct (omega (arith, p, read)))
 
 pub segment-start-requires : goal.segment-start-requires

@@ -42,8 +42,7 @@ returns-then-not-is_pointer c =
     get_or s.first.now c.block_of.result 0 ≡ first_cell s.first.now s.territory s.address =
     ap (λ k. get_or c.args.first.now k 0) c.block_of.ensures in
     let s = c.args in
-    let known = c in
-    let direct = if_not (leb? pointer_bit (get_or s.first.now known.block_of.result 0)) c.is_pointer.ensures (ap not c.if-not-is_pointer.true) in
+    let direct = if_not (leb? pointer_bit (get_or s.first.now c.block_of.result 0)) c.is_pointer.ensures (ap not c.if-not-is_pointer.true) in
     accepts s.first.now s.long.now s.territory s.address may_read
     (λ h. direct (omega (arith, h.pointer, read)))
 
@@ -59,7 +58,6 @@ returns-then-long-segment c =
     get_or s.first.now c.block_of.result 0 ≡ first_cell s.first.now s.territory s.address =
     ap (λ k. get_or c.args.first.now k 0) c.block_of.ensures in
     let s = c.args in
-    let known = c in
     let cell = first_cell s.first.now s.territory s.address in
     let pointer : pointer_bit ≤ cell = omega (arith, (if_so (leb? pointer_bit _) c.is_pointer.ensures (ap not c.if-not-is_pointer.false)), read) in
     let astray : length s.long.now / block_size ≤ segment_of cell = omega (arith, c.if-long-segment.true, read) in
@@ -74,7 +72,6 @@ returns c =
     get_or s.first.now c.block_of.result 0 ≡ first_cell s.first.now s.territory s.address =
     ap (λ k. get_or c.args.first.now k 0) c.block_of.ensures in
     let s = c.args in
-    let known = c in
     let cell = first_cell s.first.now s.territory s.address in
     let lent : segment_of cell < length s.long.now / block_size = omega (arith, c.if-long-segment.false, read) in
     accepts s.first.now s.long.now s.territory s.address may_read (λ h. omega (arith, h.not-lent))

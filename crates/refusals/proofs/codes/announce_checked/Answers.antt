@@ -31,7 +31,7 @@ returns-then-checked-ne0 c =
     let learnt : let s = c in
     Learnt s.args.territory s.args.prefix (λ m. tested s.args.territory (puts (route_by s.args.prefix s.args.hop)) m 0) never (lent_of s.args.first.now s.args.long.now s.args.owners.now s.args.rules.now) c.tests-checked.result =
     c.tests-checked.ensures (puts (route_by c.args.prefix c.args.hop)) (record { names = refl; numbers = c.is_route.ensures }) in
-    let s = c in stays (puts (route_by s.args.prefix s.args.hop)) learnt (unless_room s.args.territory s.args.prefix) c.if-checked-ne0.true
+    stays (puts (route_by c.args.prefix c.args.hop)) learnt (unless_room c.args.territory c.args.prefix) c.if-checked-ne0.true
 
 pub returns-then-is_full : goal.returns-then-is_full
 unfolding code is_change
@@ -41,15 +41,13 @@ returns-then-is_full c =
     c.tests-checked.ensures (puts (route_by c.args.prefix c.args.hop)) (record { names = refl; numbers = c.is_route.ensures }) in
     let no_room : let s = c.args in c.is_full.result ≡ (not (is_live s.prefix (routes s.rules.now)) && no_zero s.rules.now) =
     c.is_full.ensures ∙ full (puts (route_by c.args.prefix c.args.hop)) learnt c.if-checked-ne0.false in
-    let s = c in
-    let six : 6 ≡ unless_room s.args.territory s.args.prefix (lent_of s.args.first.now s.args.long.now s.args.owners.now s.args.rules.now) = by_room _ _ (lent_of s.args.first.now s.args.long.now s.args.owners.now s.args.rules.now) (sym no_room ∙ c.if-is_full.true) refl refl in
-    refused_is (goes_on_lem (puts (route_by s.args.prefix s.args.hop)) learnt c.if-checked-ne0.false six) (omega (arith, c.refused.ensures)) (λ z. omega arith)
+    let six : 6 ≡ unless_room c.args.territory c.args.prefix (lent_of c.args.first.now c.args.long.now c.args.owners.now c.args.rules.now) = by_room _ _ (lent_of c.args.first.now c.args.long.now c.args.owners.now c.args.rules.now) (sym no_room ∙ c.if-is_full.true) refl refl in
+    refused_is (goes_on_lem (puts (route_by c.args.prefix c.args.hop)) learnt c.if-checked-ne0.false six) (omega (arith, c.refused.ensures)) (λ z. omega arith)
 
 pub offset_bounds-first-block : goal.offset_bounds-first-block
 unfolding is_change
 offset_bounds-first-block c =
-    let learnt : let s = c in
-    Learnt s.args.territory s.args.prefix (λ m. tested s.args.territory (puts (route_by s.args.prefix s.args.hop)) m 0) never (lent_of s.args.first.now s.args.long.now s.args.owners.now s.args.rules.now) c.tests-checked.result =
+    let learnt : Learnt c.args.territory c.args.prefix (λ m. tested c.args.territory (puts (route_by c.args.prefix c.args.hop)) m 0) never (lent_of c.args.first.now c.args.long.now c.args.owners.now c.args.rules.now) c.tests-checked.result =
     c.tests-checked.ensures (puts (route_by c.args.prefix c.args.hop)) (record { names = refl; numbers = c.is_route.ensures }) in
     let cell-lent : c.tests-checked.result.blocks.from < length c.args.first.now =
     let k = let_pass (puts (route_by c.args.prefix c.args.hop)) learnt c.if-checked-ne0.false in
@@ -59,8 +57,7 @@ offset_bounds-first-block c =
 pub bounds-first-block : goal.bounds-first-block
 unfolding is_change
 bounds-first-block c =
-    let learnt : let s = c in
-    Learnt s.args.territory s.args.prefix (λ m. tested s.args.territory (puts (route_by s.args.prefix s.args.hop)) m 0) never (lent_of s.args.first.now s.args.long.now s.args.owners.now s.args.rules.now) c.tests-checked.result =
+    let learnt : Learnt c.args.territory c.args.prefix (λ m. tested c.args.territory (puts (route_by c.args.prefix c.args.hop)) m 0) never (lent_of c.args.first.now c.args.long.now c.args.owners.now c.args.rules.now) c.tests-checked.result =
     c.tests-checked.ensures (puts (route_by c.args.prefix c.args.hop)) (record { names = refl; numbers = c.is_route.ensures }) in
     let cell-lent : c.tests-checked.result.blocks.from < length c.args.first.now =
     let k = let_pass (puts (route_by c.args.prefix c.args.hop)) learnt c.if-checked-ne0.false in
@@ -79,9 +76,8 @@ returns-then-not-needs_segment c =
     let s = c.args in
     c.needs_segment.ensures
     ∙ ap (λ (b : Blocks). ltb width s.prefix.length && not (is_pointer (get_or s.first.now b.from 0))) (learnt.blocks c.if-checked-ne0.false) in
-    let s = c in
     let no = sym needed ∙ c.if-not-needs_segment.true in
-    learnt_as learnt (ap (tested s.args.territory (puts (route_by s.args.prefix s.args.hop)) (lent_of s.args.first.now s.args.long.now s.args.owners.now s.args.rules.now)) (by_room _ _ (lent_of s.args.first.now s.args.long.now s.args.owners.now s.args.rules.now) (sym no_room ∙ c.if-is_full.false) no refl)) (λ z. sym no)
+    learnt_as learnt (ap (tested c.args.territory (puts (route_by c.args.prefix c.args.hop)) (lent_of c.args.first.now c.args.long.now c.args.owners.now c.args.rules.now)) (by_room _ _ (lent_of c.args.first.now c.args.long.now c.args.owners.now c.args.rules.now) (sym no_room ∙ c.if-is_full.false) no refl)) (λ z. sym no)
 
 pub returns-then-segment-owners : goal.returns-then-segment-owners
 unfolding code is_change needs_segment
@@ -95,10 +91,9 @@ returns-then-segment-owners c =
     let s = c.args in
     c.needs_segment.ensures
     ∙ ap (λ (b : Blocks). ltb width s.prefix.length && not (is_pointer (get_or s.first.now b.from 0))) (learnt.blocks c.if-checked-ne0.false) in
-    let s = c in
-    let seven : 7 ≡ unless_room s.args.territory s.args.prefix (lent_of s.args.first.now s.args.long.now s.args.owners.now s.args.rules.now) = by_room _ _ (lent_of s.args.first.now s.args.long.now s.args.owners.now s.args.rules.now) (sym no_room ∙ c.if-is_full.false)
-    (sym needed ∙ c.if-not-needs_segment.false) (passes (no_zero? s.args.owners.now) (omega (arith, c.free_segment-segment.ensures))) in
-    refused_is (goes_on_lem (puts (route_by s.args.prefix s.args.hop)) learnt c.if-checked-ne0.false seven) (omega (arith, c.refused-then-segment-owners.ensures)) (λ z. omega arith)
+    let seven : 7 ≡ unless_room c.args.territory c.args.prefix (lent_of c.args.first.now c.args.long.now c.args.owners.now c.args.rules.now) = by_room _ _ (lent_of c.args.first.now c.args.long.now c.args.owners.now c.args.rules.now) (sym no_room ∙ c.if-is_full.false)
+    (sym needed ∙ c.if-not-needs_segment.false) (passes (no_zero? c.args.owners.now) (omega (arith, c.free_segment-segment.ensures))) in
+    refused_is (goes_on_lem (puts (route_by c.args.prefix c.args.hop)) learnt c.if-checked-ne0.false seven) (omega (arith, c.refused-then-segment-owners.ensures)) (λ z. omega arith)
 
 pub returns : goal.returns
 unfolding code is_change needs_segment
@@ -112,12 +107,11 @@ returns c =
     let s = c.args in
     c.needs_segment.ensures
     ∙ ap (λ (b : Blocks). ltb width s.prefix.length && not (is_pointer (get_or s.first.now b.from 0))) (learnt.blocks c.if-checked-ne0.false) in
-    let s = c in
     let k = learnt in
     let yes = sym needed ∙ c.if-not-needs_segment.false in
-    let free = stops (no_zero? s.args.owners.now) (λ e. c.if-segment-owners.false (omega (arith, c.free_segment-segment.ensures))) in
+    let free = stops (no_zero? c.args.owners.now) (λ e. c.if-segment-owners.false (omega (arith, c.free_segment-segment.ensures))) in
     record {
-      number = k.number ∙ ap (tested s.args.territory (puts (route_by s.args.prefix s.args.hop)) (lent_of s.args.first.now s.args.long.now s.args.owners.now s.args.rules.now)) (by_room _ _ (lent_of s.args.first.now s.args.long.now s.args.owners.now s.args.rules.now) (sym no_room ∙ c.if-is_full.false) yes free);
+      number = k.number ∙ ap (tested c.args.territory (puts (route_by c.args.prefix c.args.hop)) (lent_of c.args.first.now c.args.long.now c.args.owners.now c.args.rules.now)) (by_room _ _ (lent_of c.args.first.now c.args.long.now c.args.owners.now c.args.rules.now) (sym no_room ∙ c.if-is_full.false) yes free);
       listed = k.listed;
       place = k.place;
       blocks = k.blocks;

@@ -21,8 +21,7 @@ use Rattle.refusals.proofs.codes.damage_tests.Goals as goal
 
 pub returns-then-not-form : goal.returns-then-not-form
 returns-then-not-form c =
-    let s = c in
-    let four : 4 ≡ unless_damaged s.args.territory s.args.prefix (lent_of s.args.first.now s.args.long.now s.args.owners.now s.args.rules.now) = by_damage _ _ (lent_of s.args.first.now s.args.long.now s.args.owners.now s.args.rules.now) (stops (undamaged? _ _ (lent_of s.args.first.now s.args.long.now s.args.owners.now s.args.rules.now)) (λ u.
+    let four : 4 ≡ unless_damaged c.args.territory c.args.prefix (lent_of c.args.first.now c.args.long.now c.args.owners.now c.args.rules.now) = by_damage _ _ (lent_of c.args.first.now c.args.long.now c.args.owners.now c.args.rules.now) (stops (undamaged? _ _ (lent_of c.args.first.now c.args.long.now c.args.owners.now c.args.rules.now)) (λ u.
     if_not (formed? _ _) c.form_of-form.ensures.test c.if-not-form.true u.rules)) in
     refused_is four (omega (arith, c.refused.ensures)) (λ z. omega arith)
 
@@ -35,17 +34,15 @@ blocks_sound-requires c =
     if_so (formed? _ _) c.form_of-form.ensures.test c.if-not-form.false in
     let listed : Listed c.args.rules.now c.form_of-form.result.used =
     subst (Listed c.args.rules.now) (sym (c.form_of-form.ensures.count (not-false _ c.if-not-form.false))) (formed_listed formed) in
-    let s = c in
-    let lent = touched-lent s.requires.lent.sized s.requires.well_formed.0 s.requires.well_formed.1 in
-    record { sized = (s.requires.lent.sized, subst (λ (b : Blocks). BlocksLent b (lent_of s.args.first.now s.args.long.now s.args.owners.now s.args.rules.now).tables) (sym c.touched-blocks.ensures) lent); listed = listed }
+    let lent = touched-lent c.requires.lent.sized c.requires.well_formed.0 c.requires.well_formed.1 in
+    record { sized = (c.requires.lent.sized, subst (λ (b : Blocks). BlocksLent b (lent_of c.args.first.now c.args.long.now c.args.owners.now c.args.rules.now).tables) (sym c.touched-blocks.ensures) lent); listed = listed }
 
 pub returns-then-not-blocks_sound : goal.returns-then-not-blocks_sound
 returns-then-not-blocks_sound c =
     let sound : let s = c in let t = s.args.territory in
     c.blocks_sound.result ≡ sound_run t (touched t s.args.prefix) (routes s.args.rules.now) (lent_of s.args.first.now s.args.long.now s.args.owners.now s.args.rules.now).tables =
     let s = c in c.blocks_sound.ensures ∙ ap (λ (b : Blocks). sound_run s.args.territory b (routes s.args.rules.now) (lent_of s.args.first.now s.args.long.now s.args.owners.now s.args.rules.now).tables) c.touched-blocks.ensures in
-    let s = c in
-    let four : 4 ≡ unless_damaged s.args.territory s.args.prefix (lent_of s.args.first.now s.args.long.now s.args.owners.now s.args.rules.now) = by_damage _ _ (lent_of s.args.first.now s.args.long.now s.args.owners.now s.args.rules.now) (stops (undamaged? _ _ (lent_of s.args.first.now s.args.long.now s.args.owners.now s.args.rules.now)) (λ u.
+    let four : 4 ≡ unless_damaged c.args.territory c.args.prefix (lent_of c.args.first.now c.args.long.now c.args.owners.now c.args.rules.now) = by_damage _ _ (lent_of c.args.first.now c.args.long.now c.args.owners.now c.args.rules.now) (stops (undamaged? _ _ (lent_of c.args.first.now c.args.long.now c.args.owners.now c.args.rules.now)) (λ u.
     if_not (sound_run? _ _ _ _) sound (ap not c.if-not-blocks_sound.true) u.blocks)) in
     refused_is four (omega (arith, c.refused-then-not-blocks_sound.ensures)) (λ z. omega arith)
 
@@ -66,8 +63,7 @@ returns c =
     let sound : let s = c in let t = s.args.territory in
     c.blocks_sound.result ≡ sound_run t (touched t s.args.prefix) (routes s.args.rules.now) (lent_of s.args.first.now s.args.long.now s.args.owners.now s.args.rules.now).tables =
     let s = c in c.blocks_sound.ensures ∙ ap (λ (b : Blocks). sound_run s.args.territory b (routes s.args.rules.now) (lent_of s.args.first.now s.args.long.now s.args.owners.now s.args.rules.now).tables) c.touched-blocks.ensures in
-    let s = c in
-    let none : 0 ≡ unless_damaged s.args.territory s.args.prefix (lent_of s.args.first.now s.args.long.now s.args.owners.now s.args.rules.now) = by_damage _ _ (lent_of s.args.first.now s.args.long.now s.args.owners.now s.args.rules.now) (passes (undamaged? _ _ (lent_of s.args.first.now s.args.long.now s.args.owners.now s.args.rules.now))
+    let none : 0 ≡ unless_damaged c.args.territory c.args.prefix (lent_of c.args.first.now c.args.long.now c.args.owners.now c.args.rules.now) = by_damage _ _ (lent_of c.args.first.now c.args.long.now c.args.owners.now c.args.rules.now) (passes (undamaged? _ _ (lent_of c.args.first.now c.args.long.now c.args.owners.now c.args.rules.now))
     (record { rules = formed; blocks = if_so (sound_run? _ _ _ _) sound (ap not c.if-not-blocks_sound.false) })) in
     record {
       number = omega (arith, none);

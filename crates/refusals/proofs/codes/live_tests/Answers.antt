@@ -15,18 +15,16 @@ returns-then-checked-ne0 c = λ ch a. stays ch (c.tests-checked.ensures ch a) (u
 
 pub returns-then-not-checked : goal.returns-then-not-checked
 returns-then-not-checked c = λ ch a.
-    let s = c in
     let k = c.tests-checked.ensures ch a in
     let zero = c.if-checked-ne0.false in
-    let five : 5 ≡ unless_live s.args.prefix (lent_of s.args.first.now s.args.long.now s.args.owners.now s.args.rules.now) = by_live _ (lent_of s.args.first.now s.args.long.now s.args.owners.now s.args.rules.now) (sym (k.place zero).says_live ∙ not-true _ c.if-not-checked.true) in
+    let five : 5 ≡ unless_live c.args.prefix (lent_of c.args.first.now c.args.long.now c.args.owners.now c.args.rules.now) = by_live _ (lent_of c.args.first.now c.args.long.now c.args.owners.now c.args.rules.now) (sym (k.place zero).says_live ∙ not-true _ c.if-not-checked.true) in
     refused_is (goes_on_lem ch k zero five) (omega (arith, c.refused.ensures)) (λ z. omega arith)
 
 pub returns : goal.returns
 returns c = λ ch a.
-    let s = c in
-    let t = s.args.territory in
-    let p = s.args.prefix in
-    let m = lent_of s.args.first.now s.args.long.now s.args.owners.now s.args.rules.now in
+    let t = c.args.territory in
+    let p = c.args.prefix in
+    let m = lent_of c.args.first.now c.args.long.now c.args.owners.now c.args.rules.now in
     let k = c.tests-checked.ensures ch a in
     let zero = c.if-checked-ne0.false in
     let lives : is_live p (routes m.rules) ≡ true = sym (k.place zero).says_live ∙ not-false _ c.if-not-checked.false in

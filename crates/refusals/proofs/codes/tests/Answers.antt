@@ -13,26 +13,23 @@ use Rattle.refusals.proofs.codes.tests.Goals as goal
 
 pub returns-then-not-lent : goal.returns-then-not-lent
 returns-then-not-lent c = λ ch a.
-    let s = c in
-    let one : 1 ≡ tested s.args.territory ch (lent_of s.args.first.now s.args.long.now s.args.owners.now s.args.rules.now) 0 = by_tests _ (lent_of s.args.first.now s.args.long.now s.args.owners.now s.args.rules.now) a (sym c.lent.ensures ∙ c.if-not-lent.true) refl refl in
+    let one : 1 ≡ tested c.args.territory ch (lent_of c.args.first.now c.args.long.now c.args.owners.now c.args.rules.now) 0 = by_tests _ (lent_of c.args.first.now c.args.long.now c.args.owners.now c.args.rules.now) a (sym c.lent.ensures ∙ c.if-not-lent.true) refl refl in
     refused_is one (omega (arith, c.refused.ensures)) (λ z. omega arith)
 
 pub returns-then-not-lets : goal.returns-then-not-lets
 returns-then-not-lets c = λ ch a.
-    let s = c in
-    let two : 2 ≡ tested s.args.territory ch (lent_of s.args.first.now s.args.long.now s.args.owners.now s.args.rules.now) 0 = by_tests _ (lent_of s.args.first.now s.args.long.now s.args.owners.now s.args.rules.now) a (sym c.lent.ensures ∙ c.if-not-lent.false) (c.if-not-lets.true) refl in
+    let two : 2 ≡ tested c.args.territory ch (lent_of c.args.first.now c.args.long.now c.args.owners.now c.args.rules.now) 0 = by_tests _ (lent_of c.args.first.now c.args.long.now c.args.owners.now c.args.rules.now) a (sym c.lent.ensures ∙ c.if-not-lent.false) (c.if-not-lets.true) refl in
     refused_is two (omega (arith, c.refused-then-not-lets.ensures)) (λ z. omega arith)
 
 pub encloses-requires : goal.encloses-requires
 encloses-requires c =
     let lent-right : let s = c in IsLent s.args.territory (lent_of s.args.first.now s.args.long.now s.args.owners.now s.args.rules.now) =
-    let s = c in if_so (is_lent? _ _) c.lent.ensures (ap not c.if-not-lent.false) in
+    if_so (is_lent? _ _) c.lent.ensures (ap not c.if-not-lent.false) in
     lent-right.sized.territory.formed.short
 
 pub returns-then-not-encloses : goal.returns-then-not-encloses
 returns-then-not-encloses c = λ ch a.
-    let s = c in
-    let three : 3 ≡ tested s.args.territory ch (lent_of s.args.first.now s.args.long.now s.args.owners.now s.args.rules.now) 0 = by_tests _ (lent_of s.args.first.now s.args.long.now s.args.owners.now s.args.rules.now) a (sym c.lent.ensures ∙ c.if-not-lent.false) (c.if-not-lets.false)
+    let three : 3 ≡ tested c.args.territory ch (lent_of c.args.first.now c.args.long.now c.args.owners.now c.args.rules.now) 0 = by_tests _ (lent_of c.args.first.now c.args.long.now c.args.owners.now c.args.rules.now) a (sym c.lent.ensures ∙ c.if-not-lent.false) (c.if-not-lets.false)
     (sym c.encloses.ensures ∙ c.if-not-encloses.true) in
     refused_is three (omega (arith, c.refused-then-not-encloses.ensures)) (λ z. omega arith)
 

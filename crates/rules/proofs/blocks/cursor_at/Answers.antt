@@ -3,4 +3,4 @@ use Rattle.rules.proofs.Cursor.{cursor_from}
 use Rattle.rules.proofs.blocks.cursor_at.Goals as goal
 
 pub returns : goal.returns
-returns c = let s = c in cursor_from s.args.address s.requires c.key_of.ensures c.position.ensures
+returns c = cursor_from c.args.address c.requires c.key_of.ensures c.position.ensures

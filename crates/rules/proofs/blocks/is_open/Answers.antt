@@ -3,4 +3,4 @@ use native.Mathlib.Omega.{arith}
 use Rattle.rules.proofs.blocks.is_open.Goals as goal
 
 pub pass-passed-requires : goal.pass-passed-requires
-pass-passed-requires c = let s = c in record { listed = s.requires.listed; cursor_at = c.cursor_at-at.ensures; aligned = (s.requires.aligned, omega (arith, s.ranges.start)) }
+pass-passed-requires c = record { listed = c.requires.listed; cursor_at = c.cursor_at-at.ensures; aligned = (c.requires.aligned, omega (arith, c.ranges.start)) }

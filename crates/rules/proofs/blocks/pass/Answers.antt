@@ -20,8 +20,7 @@ bounds-rules-i c = omega (arith, listed_within c.requires.listed)
 
 pub returns-then-start-address : goal.returns-then-start-address
 returns-then-start-address c =
-    let s = c in
-    passing_met _ _ _ _ _ _ s.requires.listed s.requires.aligned.0 s.requires.cursor_at c.loop-i.invariant (λ l. omega arith)
+    passing_met _ _ _ _ _ _ c.requires.listed c.requires.aligned.0 c.requires.cursor_at c.loop-i.invariant (λ l. omega arith)
 
 pub loop-i-preserved : goal.loop-i-preserved
 loop-i-preserved c =
@@ -32,5 +31,4 @@ loop-i-preserved c =
 
 pub returns : goal.returns
 returns c =
-    let s = c in
-    passing_met _ _ _ _ _ _ s.requires.listed s.requires.aligned.0 s.requires.cursor_at c.loop-i.invariant (λ l. absurd (omega arith))
+    passing_met _ _ _ _ _ _ c.requires.listed c.requires.aligned.0 c.requires.cursor_at c.loop-i.invariant (λ l. absurd (omega arith))

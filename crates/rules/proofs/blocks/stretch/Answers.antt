@@ -8,8 +8,7 @@ use Rattle.rules.proofs.blocks.stretch.Goals as goal
 
 pub returns-then-at-used : goal.returns-then-at-used
 returns-then-at-used c =
-    let s = c in
-    stretch_to s.args.left s.requires.listed s.requires.cursor_at (omega arith) (λ l. absurd (omega arith))
+    stretch_to c.args.left c.requires.listed c.requires.cursor_at (omega arith) (λ l. absurd (omega arith))
 
 pub offset_bounds-rules-at : goal.offset_bounds-rules-at
 offset_bounds-rules-at c = omega (arith, listed_within c.requires.listed)
@@ -18,14 +17,12 @@ pub bounds-rules-at : goal.bounds-rules-at
 bounds-rules-at c = omega (arith, listed_within c.requires.listed)
 
 pub overflow_sub-ahead : goal.overflow_sub-ahead
-overflow_sub-ahead c = let s = c in omega (arith, s.requires.cursor_at.above s.args.at (omega arith) (omega arith))
+overflow_sub-ahead c = omega (arith, c.requires.cursor_at.above c.args.at (omega arith) (omega arith))
 
 pub returns-then-left-ahead : goal.returns-then-left-ahead
 returns-then-left-ahead c =
-    let s = c in
-    stretch_to s.args.left s.requires.listed s.requires.cursor_at (omega arith) (λ l. omega (arith, s.requires.cursor_at.above s.args.at (omega arith) l))
+    stretch_to c.args.left c.requires.listed c.requires.cursor_at (omega arith) (λ l. omega (arith, c.requires.cursor_at.above c.args.at (omega arith) l))
 
 pub returns : goal.returns
 returns c =
-    let s = c in
-    stretch_to ((c.address.result - s.args.start) / block_size) s.requires.listed s.requires.cursor_at (omega arith) (λ l. omega (arith, s.requires.cursor_at.above s.args.at (omega arith) l))
+    stretch_to ((c.address.result - c.args.start) / block_size) c.requires.listed c.requires.cursor_at (omega arith) (λ l. omega (arith, c.requires.cursor_at.above c.args.at (omega arith) l))

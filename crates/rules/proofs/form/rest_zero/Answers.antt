@@ -18,12 +18,11 @@ pub loop-i-init : goal.loop-i-init
 loop-i-init c = (search rules, starts (omega arith))
 
 pub returns-then-rules-i-ne0 : goal.returns-then-rules-i-ne0
-returns-then-rules-i-ne0 c = let at = c in sym (at.loop-i.invariant.1.is ∙ zeros_stop at.args.rules.now at.loop-i.i (omega arith) c.if-rules-i-ne0.true)
+returns-then-rules-i-ne0 c = sym (c.loop-i.invariant.1.is ∙ zeros_stop c.args.rules.now c.loop-i.i (omega arith) c.if-rules-i-ne0.true)
 
 pub loop-i-preserved : goal.loop-i-preserved
 loop-i-preserved c =
-    let at = c in
-    (search rules, record { is = at.loop-i.invariant.1.is ∙ zeros_more at.args.rules.now at.loop-i.i (omega arith) c.if-rules-i-ne0.false })
+    (search rules, record { is = c.loop-i.invariant.1.is ∙ zeros_more c.args.rules.now c.loop-i.i (omega arith) c.if-rules-i-ne0.false })
 
 pub returns : goal.returns
 returns c = sym (c.loop-i.invariant.1.is ∙ zeros_end _ _ c.loop-i-test.false)

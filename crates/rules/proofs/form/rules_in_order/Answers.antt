@@ -18,8 +18,7 @@ returns-then-not-next c =
 
 pub overflow_add-low : goal.overflow_add-low
 overflow_add-low c =
-    let at = c in
-    let w : ℕ = get_or at.args.rules.now at.loop-i.i 0 in
+    let w : ℕ = get_or c.args.rules.now c.loop-i.i 0 in
     omega (arith, word_room w (omega arith))
 
 pub loop-i-preserved : goal.loop-i-preserved

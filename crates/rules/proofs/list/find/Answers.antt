@@ -7,8 +7,7 @@ use Rattle.rules.proofs.list.find.Goals as goal
 
 pub returns-then-at-used : goal.returns-then-at-used
 returns-then-at-used c =
-    let s = c in
-    place_past s.requires.listed s.requires.well_formed c.key_of-key.ensures c.position-at.ensures c.if-at-used.true
+    place_past c.requires.listed c.requires.well_formed c.key_of-key.ensures c.position-at.ensures c.if-at-used.true
 
 pub offset_bounds-rules-at : goal.offset_bounds-rules-at
 offset_bounds-rules-at c = omega (arith, listed_within c.requires.listed)
@@ -18,6 +17,4 @@ bounds-rules-at c = omega (arith, listed_within c.requires.listed)
 
 pub returns : goal.returns
 returns c =
-    let at = c in
-    let s = at in
-    place_within s.requires.listed s.requires.well_formed at.key_of-key.ensures at.position-at.ensures _ (omega arith) c.key.ensures
+    place_within c.requires.listed c.requires.well_formed c.key_of-key.ensures c.position-at.ensures _ (omega arith) c.key.ensures

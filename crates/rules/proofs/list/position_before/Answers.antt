@@ -13,34 +13,30 @@ offset_bounds-rules-at c = omega (arith, listed_within c.requires.listed, c.loop
 
 pub bounds-rules-at : goal.bounds-rules-at
 bounds-rules-at c =
-    let at-loop = c in
-    omega (arith, listed_within at-loop.requires.listed, at-loop.loop-stride.invariant.0.high_le, at-loop.loop-stride.invariant.1)
+    omega (arith, listed_within c.requires.listed, c.loop-stride.invariant.0.high_le, c.loop-stride.invariant.1)
 
 pub overflow_add-at : goal.overflow_add-at
 overflow_add-at c =
-    let at-loop = c in
-    omega (arith, listed_within at-loop.requires.listed, at-loop.loop-stride.invariant.0.high_le)
+    omega (arith, listed_within c.requires.listed, c.loop-stride.invariant.0.high_le)
 
 pub between-requires : goal.between-requires
 between-requires c =
-    let at-loop = c in
-    let s = at-loop.requires.listed in
-    let b = bracket_up s at-loop.loop-stride.invariant.0 (at-loop.loop-stride.high - at-loop.loop-stride.stride) (omega arith) (omega (arith, at-loop.loop-stride.invariant.1)) (omega arith) in
+    let s = c.requires.listed in
+    let b = bracket_up s c.loop-stride.invariant.0 (c.loop-stride.high - c.loop-stride.stride) (omega arith) (omega (arith, c.loop-stride.invariant.1)) (omega arith) in
     record { listed = s; bracket = record { low_le = omega (arith, b.low_le); high_le = b.high_le; below = λ i h. b.below i (omega arith); above = b.above } }
 
 pub overflow_add-stride : goal.overflow_add-stride
 overflow_add-stride c =
-    let at-loop = c in
-    omega (arith, listed_within at-loop.requires.listed, at-loop.loop-stride.invariant.0.high_le)
+    omega (arith, listed_within c.requires.listed, c.loop-stride.invariant.0.high_le)
 
 pub loop-stride-smaller : goal.loop-stride-smaller
 loop-stride-smaller c = omega (arith, c.loop-stride.invariant.1)
 
 pub loop-stride-preserved : goal.loop-stride-preserved
 loop-stride-preserved c =
-    let at-loop = c in (
-      bracket_down at-loop.requires.listed at-loop.loop-stride.invariant.0 _ (omega arith) (omega (arith, at-loop.loop-stride.invariant.1)) (omega arith),
-      omega (arith, at-loop.loop-stride.invariant.1),
+    (
+      bracket_down c.requires.listed c.loop-stride.invariant.0 _ (omega arith) (omega (arith, c.loop-stride.invariant.1)) (omega arith),
+      omega (arith, c.loop-stride.invariant.1),
     )
 
 pub between-requires-2 : goal.between-requires-2

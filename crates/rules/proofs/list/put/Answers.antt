@@ -21,9 +21,8 @@ bounds-rules-at c =
 
 pub returns-then-place : goal.returns-then-place
 returns-then-place c =
-    let s = c in
-    ap (λ (x : ℕ). set s.args.rules.now s.args.place.at x) c.pack-word.ensures
-    ∙ put_same s.requires.listed s.requires.route.formed s.requires.place_is s.args.hop c.if-place.true
+    ap (λ (x : ℕ). set c.args.rules.now c.args.place.at x) c.pack-word.ensures
+    ∙ put_same c.requires.listed c.requires.route.formed c.requires.place_is c.args.hop c.if-place.true
 
 pub insert_at-requires : goal.insert_at-requires
 insert_at-requires c =
@@ -33,9 +32,6 @@ insert_at-requires c =
 
 pub returns : goal.returns
 returns c =
-    let at = c in
-    let test = at in
-    let s = test in
-    at.insert_at.ensures
-    ∙ ap (inserted_at s.args.rules.now s.args.used s.args.place.at) test.pack-word.ensures
-    ∙ put_new s.requires.listed s.requires.route.formed s.requires.place_is s.args.hop test.if-place.false (s.requires.room test.if-place.false)
+    c.insert_at.ensures
+    ∙ ap (inserted_at c.args.rules.now c.args.used c.args.place.at) c.pack-word.ensures
+    ∙ put_new c.requires.listed c.requires.route.formed c.requires.place_is c.args.hop c.if-place.false (c.requires.room c.if-place.false)

@@ -13,8 +13,7 @@ remove_at-requires c =
 
 pub returns : goal.returns
 returns c =
-    let at = c in
-    let s = at.requires in
-    let args = at.args in
-    let taken : _ ≡ removed_at args.rules.now args.used args.place.at = at.remove_at.ensures in
+    let s = c.requires in
+    let args = c.args in
+    let taken : _ ≡ removed_at args.rules.now args.used args.place.at = c.remove_at.ensures in
     taken ∙ taken_out s.listed s.well_formed s.place_is s.is_found

@@ -10,7 +10,6 @@ next-requires c = record { listed = c.requires.listed; count_up_to = c.skip_ende
 
 pub returns : goal.returns
 returns c =
-    let s = c in
     let skipped = c.skip_ended-skipped.ensures in
-    run_on s.args.cell c.lower.result s.args.until s.requires.listed s.requires.covers skipped (not-false _ c.if-not-skipped.false)
+    run_on c.args.cell c.lower.result c.args.until c.requires.listed c.requires.covers skipped (not-false _ c.if-not-skipped.false)
     c.next.ensures c.lower.ensures (omega arith)

@@ -22,13 +22,11 @@ prefix-prefix-requires c = tt
 
 pub returns-then-address-prefix : goal.returns-then-address-prefix
 returns-then-address-prefix c =
-    let at-loop = c in
-    skip_later at-loop.requires.listed at-loop.loop-i.invariant (omega arith) (omega (arith, ap (λ (p : Prefix). p.address) c.prefix-prefix.ensures))
+    skip_later c.requires.listed c.loop-i.invariant (omega arith) (omega (arith, ap (λ (p : Prefix). p.address) c.prefix-prefix.ensures))
 
 pub contains-requires : goal.contains-requires
 contains-requires c =
-    let at-loop = c in
-    omega (arith, listed_short at-loop.requires.listed at-loop.loop-i.i (omega arith), ap (λ (p : Prefix). p.length) c.prefix-prefix.ensures)
+    omega (arith, listed_short c.requires.listed c.loop-i.i (omega arith), ap (λ (p : Prefix). p.length) c.prefix-prefix.ensures)
 
 pub returns-then-contains : goal.returns-then-contains
 returns-then-contains c = skip_met
@@ -41,11 +39,10 @@ loop-i-smaller c = omega arith
 
 pub loop-i-preserved : goal.loop-i-preserved
 loop-i-preserved c =
-    let s = c in
     let same = c.prefix-prefix.ensures in
-    skip_more s.requires.listed c.loop-i.invariant (omega arith)
+    skip_more c.requires.listed c.loop-i.invariant (omega arith)
     (omega (arith, ap (λ (p : Prefix). p.address) same))
-    (denies (contains? _ _) (sym (contains_of {b = s.args.address} same (omega arith)) ∙ sym c.contains.ensures ∙ c.if-contains.false))
+    (denies (contains? _ _) (sym (contains_of {b = c.args.address} same (omega arith)) ∙ sym c.contains.ensures ∙ c.if-contains.false))
 
 pub returns : goal.returns
 returns c = skip_done c.requires.listed c.loop-i.invariant (λ k low high. absurd (omega arith))

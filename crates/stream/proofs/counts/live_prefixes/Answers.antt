@@ -8,10 +8,10 @@ loop-i-init c = counted_none _
 
 pub loop-i-preserved : goal.loop-i-preserved
 loop-i-preserved c =
-    let at = c in counted_more c.loop-i-test.true c.one_if_used-count.ensures at.loop-i.invariant
+    counted_more c.loop-i-test.true c.one_if_used-count.ensures c.loop-i.invariant
 
 pub overflow_add-count : goal.overflow_add-count
-overflow_add-count c = omega (arith, (let at = c in counted_more c.loop-i-test.true c.one_if_used-count.ensures at.loop-i.invariant).small)
+overflow_add-count c = omega (arith, (counted_more c.loop-i-test.true c.one_if_used-count.ensures c.loop-i.invariant).small)
 
 pub returns : goal.returns
 returns c = counted_all c.loop-i-test.false c.loop-i.invariant

@@ -9,29 +9,26 @@ use Rattle.tables.proofs.Closing.{closed}
 use Rattle.tables.proofs.fill.close.Goals as goal
 
 pub bounds-first-block : goal.bounds-first-block
-bounds-first-block c = let s = c in omega (arith, block_lent s.requires.closable.ready s.requires.block_of_prefix)
+bounds-first-block c = omega (arith, block_lent c.requires.closable.ready c.requires.block_of_prefix)
 
 pub segment-segment-requires : goal.segment-segment-requires
-segment-segment-requires c = let s = c in omega (arith, points s.requires.closable s.requires.block_of_prefix)
+segment-segment-requires c = omega (arith, points c.requires.closable c.requires.block_of_prefix)
 
 pub segment_cells-range-requires : goal.segment_cells-range-requires
-segment_cells-range-requires c = let s = c in omega (arith, points s.requires.closable s.requires.block_of_prefix)
+segment_cells-range-requires c = omega (arith, points c.requires.closable c.requires.block_of_prefix)
 
 pub fill_run-changed-requires : goal.fill_run-changed-requires
 fill_run-changed-requires c =
-    let s = c in
     let run = c.segment_cells-range.ensures in
-    segment_within s.requires.closable.ready.sized (owns s.requires.closable s.requires.block_of_prefix) (omega (arith, run.low)) (omega (arith, run.high))
+    segment_within c.requires.closable.ready.sized (owns c.requires.closable c.requires.block_of_prefix) (omega (arith, run.low)) (omega (arith, run.high))
     (omega (arith, run.low, run.high))
 
 pub bounds-owners-segment : goal.bounds-owners-segment
 bounds-owners-segment c =
-    let k = c in
-    let s = k in
-    omega (arith, k.segment-segment.ensures, (owns s.requires.closable s.requires.block_of_prefix).lent)
+    omega (arith, c.segment-segment.ensures, (owns c.requires.closable c.requires.block_of_prefix).lent)
 
 pub bounds-first-block-2 : goal.bounds-first-block-2
-bounds-first-block-2 c = let s = c in omega (arith, block_lent s.requires.closable.ready s.requires.block_of_prefix)
+bounds-first-block-2 c = omega (arith, block_lent c.requires.closable.ready c.requires.block_of_prefix)
 
 pub overflow_add-result : goal.overflow_add-result
 overflow_add-result c =
@@ -40,9 +37,6 @@ overflow_add-result c =
 
 pub returns : goal.returns
 returns c =
-    let at_fill_lem = c in
-    let k = c in
-    let s = k in
-    let run = at_fill_lem.segment_cells-range.ensures in
-    closed s.requires.closable s.requires.block_of_prefix _ k.segment-segment.ensures (omega (arith, k.segment-segment.ensures, run.low)) (omega (arith, run.high)) refl (omega arith)
-    at_fill_lem.fill_run-changed.ensures c.differ.ensures
+    let run = c.segment_cells-range.ensures in
+    closed c.requires.closable c.requires.block_of_prefix _ c.segment-segment.ensures (omega (arith, c.segment-segment.ensures, run.low)) (omega (arith, run.high)) refl (omega arith)
+    c.fill_run-changed.ensures c.differ.ensures

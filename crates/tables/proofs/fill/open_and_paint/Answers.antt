@@ -8,8 +8,7 @@ use Rattle.tables.proofs.fill.open_and_paint.Goals as goal
 
 pub bounds-first-block : goal.bounds-first-block
 bounds-first-block c =
-    let s = c in
-    omega (arith, block_in s.requires.openable s.requires.block_of_prefix)
+    omega (arith, block_in c.requires.openable c.requires.block_of_prefix)
 
 pub fill_segment-changed-requires : goal.fill_segment-changed-requires
 fill_segment-changed-requires c =
@@ -19,8 +18,7 @@ fill_segment-changed-requires c =
 
 pub bounds-first-block-2 : goal.bounds-first-block-2
 bounds-first-block-2 c =
-    let s = c in
-    omega (arith, block_in s.requires.openable s.requires.block_of_prefix)
+    omega (arith, block_in c.requires.openable c.requires.block_of_prefix)
 
 pub overflow_add-result : goal.overflow_add-result
 overflow_add-result c =
@@ -30,7 +28,5 @@ overflow_add-result c =
 
 pub returns : goal.returns
 returns c =
-    let k = c in
-    let s = k in
-    opened_and_changed s.requires.openable s.requires.block_of_prefix k.segment_start-at.ensures k.prefix_cells-range.ensures _ (λ a. k.paint_cell-painted.ensures)
+    opened_and_changed c.requires.openable c.requires.block_of_prefix c.segment_start-at.ensures c.prefix_cells-range.ensures _ (λ a. c.paint_cell-painted.ensures)
     (omega arith) c.point_to.ensures (omega arith) c.fill_segment-changed.ensures

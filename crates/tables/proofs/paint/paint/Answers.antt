@@ -16,34 +16,31 @@ pub overflow_add-to : goal.overflow_add-to
 overflow_add-to c =
     let ready : let a = c.args in
     BlocksReady a.territory a.blocks.from (a.blocks.from + a.blocks.count) (tables_of a.first.now a.long.now a.owners.now) =
-    let s = c in blocks_ready s.requires.repaintable.ready c.if-length-le-WIDTH.true s.requires.touched_blocks in
+    blocks_ready c.requires.repaintable.ready c.if-length-le-WIDTH.true c.requires.touched_blocks in
     omega (arith, ready.within, few_firsts ready.sized)
 
 pub paint_blocks-requires : goal.paint_blocks-requires
 paint_blocks-requires c =
     let ready : let a = c.args in
     BlocksReady a.territory a.blocks.from (a.blocks.from + a.blocks.count) (tables_of a.first.now a.long.now a.owners.now) =
-    let s = c in blocks_ready s.requires.repaintable.ready c.if-length-le-WIDTH.true s.requires.touched_blocks in
+    blocks_ready c.requires.repaintable.ready c.if-length-le-WIDTH.true c.requires.touched_blocks in
     ready
 
 pub returns-then-length-le-WIDTH : goal.returns-then-length-le-WIDTH
 returns-then-length-le-WIDTH c =
-    let at-paint = c in
-    let k = at-paint in
-    let s = k in
-    blocks-repainted s.requires.repaintable.ready k.if-length-le-WIDTH.true s.requires.touched_blocks _ at-paint.paint_blocks.ensures
+    blocks-repainted c.requires.repaintable.ready c.if-length-le-WIDTH.true c.requires.touched_blocks _ c.paint_blocks.ensures
 
 pub offset_bounds-first-block : goal.offset_bounds-first-block
 offset_bounds-first-block c =
     let from : c.args.blocks.from ≡ block_of c.args.territory c.args.prefix.address =
     ap (λ (x : Blocks). x.from) c.requires.touched_blocks in
-    let s = c in omega (arith, block_lent s.requires.repaintable.ready from, few_firsts s.requires.repaintable.ready.sized)
+    omega (arith, block_lent c.requires.repaintable.ready from, few_firsts c.requires.repaintable.ready.sized)
 
 pub bounds-first-block : goal.bounds-first-block
 bounds-first-block c =
     let from : c.args.blocks.from ≡ block_of c.args.territory c.args.prefix.address =
     ap (λ (x : Blocks). x.from) c.requires.touched_blocks in
-    let s = c in omega (arith, block_lent s.requires.repaintable.ready from)
+    omega (arith, block_lent c.requires.repaintable.ready from)
 
 pub segment-requires : goal.segment-requires
 segment-requires c =
@@ -59,9 +56,8 @@ prefix_cells-range-requires c =
     ap (λ (x : Blocks). x.from) c.requires.touched_blocks in
     let open_block : let a = c.args in Closable a.territory a.prefix (tables_of a.first.now a.long.now a.owners.now) =
     closable c.requires.repaintable c.if-length-le-WIDTH.false in
-    let k = c in
     let lent = (owns open_block from).lent in
-    record { segment_fits = omega (arith, c.segment.ensures, open_block.ready.sized.few); is_long = (omega (arith, k.if-length-le-WIDTH.false), open_block.ready.formed.short) }
+    record { segment_fits = omega (arith, c.segment.ensures, open_block.ready.sized.few); is_long = (omega (arith, c.if-length-le-WIDTH.false), open_block.ready.formed.short) }
 
 pub paint_run-requires : goal.paint_run-requires
 paint_run-requires c =
@@ -69,9 +65,7 @@ paint_run-requires c =
     ap (λ (x : Blocks). x.from) c.requires.touched_blocks in
     let open_block : let a = c.args in Closable a.territory a.prefix (tables_of a.first.now a.long.now a.owners.now) =
     closable c.requires.repaintable c.if-length-le-WIDTH.false in
-    let at-segment = c in
-    let k = at-segment in
-    run_within open_block from at-segment.segment.ensures c.prefix_cells-range.ensures
+    run_within open_block from c.segment.ensures c.prefix_cells-range.ensures
 
 pub returns : goal.returns
 returns c =
@@ -79,7 +73,4 @@ returns c =
     ap (λ (x : Blocks). x.from) c.requires.touched_blocks in
     let open_block : let a = c.args in Closable a.territory a.prefix (tables_of a.first.now a.long.now a.owners.now) =
     closable c.requires.repaintable c.if-length-le-WIDTH.false in
-    let at-run = c in
-    let at-segment = at-run in
-    let k = at-segment in
-    run_repainted open_block from at-segment.segment.ensures at-run.prefix_cells-range.ensures _ at-run.paint_run.ensures
+    run_repainted open_block from c.segment.ensures c.prefix_cells-range.ensures _ c.paint_run.ensures

@@ -18,21 +18,17 @@ pub paint_run-requires : goal.paint_run-requires
 paint_run-requires c =
     let owns : let a = c.args in let T = tables_of a.first.now a.long.now a.owners.now in Owns T a.block (segment_at T a.block) =
     owns_one c.requires (leb-true _ _ (sym c.is_pointer.ensures ∙ c.if-is_pointer.true)) in
-    let k = c in
     let run = c.segment_cells-range.ensures in
-    segment_within k.requires.sized owns (omega (arith, run.low)) (omega (arith, run.high)) (omega (arith, run.low, run.high))
+    segment_within c.requires.sized owns (omega (arith, run.low)) (omega (arith, run.high)) (omega (arith, run.low, run.high))
 
 pub returns-then-is_pointer : goal.returns-then-is_pointer
 returns-then-is_pointer c =
     let owns : let a = c.args in let T = tables_of a.first.now a.long.now a.owners.now in Owns T a.block (segment_at T a.block) =
     owns_one c.requires (leb-true _ _ (sym c.is_pointer.ensures ∙ c.if-is_pointer.true)) in
-    let at-run = c in
-    let at_cells = at-run in
-    let run = at_cells.segment_cells-range.ensures in
-    block_points _ _ owns (omega (arith, run.low)) (omega (arith, run.high)) at-run.paint_run.ensures
+    let run = c.segment_cells-range.ensures in
+    block_points _ _ owns (omega (arith, run.low)) (omega (arith, run.high)) c.paint_run.ensures
 
 pub returns : goal.returns
 returns c =
-    let at-else = c in
-    block_direct _ _ (omega arith) (leb-false _ _ (sym at-else.is_pointer.ensures ∙ at-else.if-is_pointer.false)) c.paint_cell-next.ensures
+    block_direct _ _ (omega arith) (leb-false _ _ (sym c.is_pointer.ensures ∙ c.if-is_pointer.false)) c.paint_cell-next.ensures
     c.differ.ensures

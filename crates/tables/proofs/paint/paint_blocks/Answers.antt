@@ -9,8 +9,7 @@ loop-block-init c = (omega arith, omega arith, blocks_none _ _ _ _)
 
 pub paint_block-changed-requires : goal.paint_block-changed-requires
 paint_block-changed-requires c =
-    let at-loop = c in
-    ready_then at-loop.loop-block.invariant.2 at-loop.loop-block.invariant.0 (omega arith) (omega arith) at-loop.requires
+    ready_then c.loop-block.invariant.2 c.loop-block.invariant.0 (omega arith) (omega arith) c.requires
 
 pub loop-block-preserved : goal.loop-block-preserved
 loop-block-preserved c = (

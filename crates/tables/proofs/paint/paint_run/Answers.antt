@@ -12,8 +12,7 @@ overflow_add-changed c = omega (arith, differs_small _ _ _ c.differ-changed.ensu
 
 pub loop-i-preserved : goal.loop-i-preserved
 loop-i-preserved c =
-    let at-loop = c in
-    turn at-loop.requires c.loop-i-test.true c.paint_cell-next.ensures c.differ-changed.ensures at-loop.loop-i.invariant
+    turn c.requires c.loop-i-test.true c.paint_cell-next.ensures c.differ-changed.ensures c.loop-i.invariant
 
 pub returns : goal.returns
 returns c = finish c.loop-i-test.false c.loop-i.invariant

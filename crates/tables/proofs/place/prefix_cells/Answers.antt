@@ -6,5 +6,4 @@ use Rattle.tables.proofs.place.prefix_cells.Goals as goal
 
 pub overflow_add-to : goal.overflow_add-to
 overflow_add-to c =
-    let s = c in
-    omega (arith, pow_mono {i = 32 - s.args.prefix.length} {j = 7} (omega (arith, s.requires.is_long.0)), c.span_of.ensures)
+    omega (arith, pow_mono {i = 32 - c.args.prefix.length} {j = 7} (omega (arith, c.requires.is_long.0)), c.span_of.ensures)

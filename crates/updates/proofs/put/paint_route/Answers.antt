@@ -13,28 +13,20 @@ pack-new-requires c = let P = c.requires in omega (arith, P.route.hop_fits, P.ro
 
 pub open_and_paint-requires : goal.open_and_paint-requires
 open_and_paint-requires c =
-    let at-then = c in
-    let P = at-then.requires in
-    record { openable = openable P at-then.if-opens.true; block_of_prefix = ap (λ (x : Blocks). x.from) P.touches }
+    let P = c.requires in
+    record { openable = openable P c.if-opens.true; block_of_prefix = ap (λ (x : Blocks). x.from) P.touches }
 
 pub returns-then-opens : goal.returns-then-opens
 returns-then-opens c =
-    let done = c in
-    let at-then = done in
-    let s = at-then in
-    let P = s.requires in
-    painted-opened s.args.territory (route_by s.args.prefix s.args.hop) (tables_of s.args.first.now s.args.long.now s.args.owners.now) (sym P.needed ∙ at-then.if-opens.true) (ap (λ (x : Blocks). x.from) P.touches)
-    (P.lowest at-then.if-opens.true) at-then.pack-new.ensures done.open_and_paint.ensures
+    let P = c.requires in
+    painted-opened c.args.territory (route_by c.args.prefix c.args.hop) (tables_of c.args.first.now c.args.long.now c.args.owners.now) (sym P.needed ∙ c.if-opens.true) (ap (λ (x : Blocks). x.from) P.touches)
+    (P.lowest c.if-opens.true) c.pack-new.ensures c.open_and_paint.ensures
 
 pub paint-requires : goal.paint-requires
 paint-requires c =
-    let at-else = c in
-    let P = at-else.requires in
-    record { repaintable = repaintable P at-else.if-opens.false; touched_blocks = P.touches }
+    let P = c.requires in
+    record { repaintable = repaintable P c.if-opens.false; touched_blocks = P.touches }
 
 pub returns : goal.returns
 returns c =
-    let done = c in
-    let at-else = done in
-    let s = at-else in
-    painted_direct s.args.territory (route_by s.args.prefix s.args.hop) (tables_of s.args.first.now s.args.long.now s.args.owners.now) (sym s.requires.needed ∙ at-else.if-opens.false) at-else.pack-new.ensures done.paint.ensures
+    painted_direct c.args.territory (route_by c.args.prefix c.args.hop) (tables_of c.args.first.now c.args.long.now c.args.owners.now) (sym c.requires.needed ∙ c.if-opens.false) c.pack-new.ensures c.paint.ensures

@@ -5,16 +5,23 @@ use native.Mathlib.Omega.{arith}
 use Rattle.prefix.specs.Routes.{puts}
 use Rattle.cells.specs.Memory.{lent_of}
 use Rattle.rules.specs.Words.{route_by}
-use Rattle.updates.specs.Effects.{retabled}
+use Rattle.updates.specs.Effects.{effect, retabled}
 use Rattle.updates.specs.inner.Steps.{Puttable}
-use Rattle.updates.proofs.Outcomes.{accepts}
+use Rattle.updates.proofs.Outcomes.{refuses, accepts}
 use Rattle.updates.proofs.put.put_checked.Goals as goal
+
+pub returns-then-checked-ne0 : goal.returns-then-checked-ne0
+returns-then-checked-ne0 c =
+    let s = c.args in
+    let m = lent_of s.first.now s.long.now s.owners.now s.rules.now in
+    let refused : ¬ (s.checked.code ≡ 0) = omega arith in
+    refuses m (effect s.territory (puts (route_by s.prefix s.hop)) m) refused
 
 pub paint_route-cells-requires : goal.paint_route-cells-requires
 paint_route-cells-requires c =
     let zero : c.args.checked.code ≡ 0 =
     omega arith in
-    let puttable : let s = c in Puttable s.args.territory (route_by s.args.prefix s.args.hop) s.args.checked (lent_of s.args.first.now s.args.long.now s.args.owners.now s.args.rules.now) =
+    let puttable : Puttable c.args.territory (route_by c.args.prefix c.args.hop) c.args.checked (lent_of c.args.first.now c.args.long.now c.args.owners.now c.args.rules.now) =
     c.requires zero in
     puttable.paintable
 
@@ -22,7 +29,7 @@ pub put-requires : goal.put-requires
 put-requires c =
     let zero : c.args.checked.code ≡ 0 =
     omega arith in
-    let puttable : let s = c in Puttable s.args.territory (route_by s.args.prefix s.args.hop) s.args.checked (lent_of s.args.first.now s.args.long.now s.args.owners.now s.args.rules.now) =
+    let puttable : Puttable c.args.territory (route_by c.args.prefix c.args.hop) c.args.checked (lent_of c.args.first.now c.args.long.now c.args.owners.now c.args.rules.now) =
     c.requires zero in
     let P = puttable in
     record { listed = P.listed; place_is = P.place; route = P.paintable.route; room = P.room }
@@ -32,8 +39,4 @@ unfolding retabled
 returns c =
     let zero : c.args.checked.code ≡ 0 =
     omega arith in
-    let done = c in
-    let painted = done in
-    let at-else = painted in
-    let s = at-else in
-    accepts s.args.territory (puts (route_by s.args.prefix s.args.hop)) (lent_of s.args.first.now s.args.long.now s.args.owners.now s.args.rules.now) zero painted.paint_route-cells.ensures done.put.ensures
+    accepts c.args.territory (puts (route_by c.args.prefix c.args.hop)) (lent_of c.args.first.now c.args.long.now c.args.owners.now c.args.rules.now) zero c.paint_route-cells.ensures c.put.ensures

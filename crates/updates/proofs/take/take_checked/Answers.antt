@@ -14,15 +14,14 @@ use Rattle.updates.proofs.take.take_checked.Goals as goal
 
 pub returns-then-checked-ne0 : goal.returns-then-checked-ne0
 returns-then-checked-ne0 c =
-    let s = c in
-    let refused : ¬ (s.args.checked.code ≡ 0) = omega (arith, c.if-checked-ne0.true) in
-    refuses (lent_of s.args.first.now s.args.long.now s.args.owners.now s.args.rules.now) (effect s.args.territory (takes s.args.prefix) (lent_of s.args.first.now s.args.long.now s.args.owners.now s.args.rules.now)) refused
+    let refused : ¬ (c.args.checked.code ≡ 0) = omega (arith, c.if-checked-ne0.true) in
+    refuses (lent_of c.args.first.now c.args.long.now c.args.owners.now c.args.rules.now) (effect c.args.territory (takes c.args.prefix) (lent_of c.args.first.now c.args.long.now c.args.owners.now c.args.rules.now)) refused
 
 pub take_out-requires : goal.take_out-requires
 take_out-requires c =
     let zero : c.args.checked.code ≡ 0 =
     omega (arith, c.if-checked-ne0.false) in
-    let takable : let s = c in Takable s.args.territory s.args.prefix s.args.checked (lent_of s.args.first.now s.args.long.now s.args.owners.now s.args.rules.now) =
+    let takable : Takable c.args.territory c.args.prefix c.args.checked (lent_of c.args.first.now c.args.long.now c.args.owners.now c.args.rules.now) =
     c.requires zero in
     let A = takable in record { listed = A.listed; well_formed = A.repaintable.ready.formed; place_is = A.place; is_found = A.lives }
 
@@ -30,7 +29,7 @@ pub overflow_sub-checked : goal.overflow_sub-checked
 overflow_sub-checked c =
     let zero : c.args.checked.code ≡ 0 =
     omega (arith, c.if-checked-ne0.false) in
-    let takable : let s = c in Takable s.args.territory s.args.prefix s.args.checked (lent_of s.args.first.now s.args.long.now s.args.owners.now s.args.rules.now) =
+    let takable : Takable c.args.territory c.args.prefix c.args.checked (lent_of c.args.first.now c.args.long.now c.args.owners.now c.args.rules.now) =
     c.requires zero in
     omega (arith, left-count takable)
 
@@ -38,11 +37,10 @@ pub unpaint_or_close-cells-requires : goal.unpaint_or_close-cells-requires
 unpaint_or_close-cells-requires c =
     let zero : c.args.checked.code ≡ 0 =
     omega (arith, c.if-checked-ne0.false) in
-    let takable : let s = c in Takable s.args.territory s.args.prefix s.args.checked (lent_of s.args.first.now s.args.long.now s.args.owners.now s.args.rules.now) =
+    let takable : Takable c.args.territory c.args.prefix c.args.checked (lent_of c.args.first.now c.args.long.now c.args.owners.now c.args.rules.now) =
     c.requires zero in
-    let out = c in
     let A = takable in
-    record { repaintable = A.repaintable; listed = left_listed A out.take_out.ensures (omega (arith, left-count A)); touched_blocks = A.touches }
+    record { repaintable = A.repaintable; listed = left_listed A c.take_out.ensures (omega (arith, left-count A)); touched_blocks = A.touches }
 
 pub returns : goal.returns
 unfolding retabled
@@ -51,12 +49,8 @@ returns c =
     omega (arith, c.if-checked-ne0.false) in
     let takable : let s = c in Takable s.args.territory s.args.prefix s.args.checked (lent_of s.args.first.now s.args.long.now s.args.owners.now s.args.rules.now) =
     c.requires zero in
-    let done = c in
-    let out = done in
-    let at-else = out in
-    let s = at-else in
-    let t = s.args.territory in
-    let p = s.args.prefix in
-    accepts t (takes p) (lent_of s.args.first.now s.args.long.now s.args.owners.now s.args.rules.now) zero
-    (done.unpaint_or_close-cells.ensures ∙ ap (λ (rs : List Route). leaves (unpainted t p rs) (lent_of s.args.first.now s.args.long.now s.args.owners.now s.args.rules.now).tables) (left-routes takable out.take_out.ensures))
-    out.take_out.ensures
+    let t = c.args.territory in
+    let p = c.args.prefix in
+    accepts t (takes p) (lent_of c.args.first.now c.args.long.now c.args.owners.now c.args.rules.now) zero
+    (c.unpaint_or_close-cells.ensures ∙ ap (λ (rs : List Route). leaves (unpainted t p rs) (lent_of c.args.first.now c.args.long.now c.args.owners.now c.args.rules.now).tables) (left-routes takable c.take_out.ensures))
+    c.take_out.ensures

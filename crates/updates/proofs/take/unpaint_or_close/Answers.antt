@@ -15,14 +15,12 @@ pub block_start-start-requires : goal.block_start-start-requires
 block_start-start-requires c =
     let own_block : c.args.blocks.from ≡ block_of c.args.territory c.args.prefix.address =
     ap (λ (x : Blocks). x.from) c.requires.touched_blocks in
-    let s = c in
-    let t = s.requires.repaintable.ready.sized.territory in
-    omega (arith, own_block, (in_range_lem t.formed s.requires.repaintable.ready.inside.inside).0, s.well_formed)
+    let t = c.requires.repaintable.ready.sized.territory in
+    omega (arith, own_block, (in_range_lem t.formed c.requires.repaintable.ready.inside.inside).0, c.well_formed)
 
 pub closes_block-requires : goal.closes_block-requires
 closes_block-requires c =
-    let s = c in
-    record { listed = s.requires.listed; aligned = omega (arith, c.block_start-start.ensures, aligned s.requires.repaintable.ready.sized.territory) }
+    record { listed = c.requires.listed; aligned = omega (arith, c.block_start-start.ensures, aligned c.requires.repaintable.ready.sized.territory) }
 
 pub close-requires : goal.close-requires
 close-requires c =
@@ -32,10 +30,7 @@ close-requires c =
     c.closes_block.result ≡ closes s.args.territory s.args.prefix (routes s.args.rules.now) =
     let s = c in
     closes_here s.requires.repaintable (routes s.args.rules.now) own_block c.block_start-start.ensures c.closes_block.ensures in
-    let at-then = c in
-    let k = at-then in
-    let s = k in
-    record { closable = closable s.requires.repaintable (routes s.args.rules.now) own_block k.block_start-start.ensures (sym closing ∙ at-then.if-closes_block.true); block_of_prefix = own_block }
+    record { closable = closable c.requires.repaintable (routes c.args.rules.now) own_block c.block_start-start.ensures (sym closing ∙ c.if-closes_block.true); block_of_prefix = own_block }
 
 pub returns-then-closes_block : goal.returns-then-closes_block
 returns-then-closes_block c =
@@ -45,12 +40,8 @@ returns-then-closes_block c =
     c.closes_block.result ≡ closes s.args.territory s.args.prefix (routes s.args.rules.now) =
     let s = c in
     closes_here s.requires.repaintable (routes s.args.rules.now) own_block c.block_start-start.ensures c.closes_block.ensures in
-    let done = c in
-    let run = done in
-    let k = run in
-    let s = k in
-    unpainted_closed s.requires.repaintable (routes s.args.rules.now) own_block k.block_start-start.ensures (sym closing ∙ run.if-closes_block.true)
-    done.close.ensures (omega (arith, run.longest-run.ensures.is))
+    unpainted_closed c.requires.repaintable (routes c.args.rules.now) own_block c.block_start-start.ensures (sym closing ∙ c.if-closes_block.true)
+    c.close.ensures (omega (arith, c.longest-run.ensures.is))
 
 pub unpaint-requires : goal.unpaint-requires
 unpaint-requires c = let s = c.requires in record { repaintable = s.repaintable; touched_blocks = s.touched_blocks; listed = s.listed }
@@ -63,8 +54,4 @@ returns c =
     c.closes_block.result ≡ closes s.args.territory s.args.prefix (routes s.args.rules.now) =
     let s = c in
     closes_here s.requires.repaintable (routes s.args.rules.now) own_block c.block_start-start.ensures c.closes_block.ensures in
-    let done = c in
-    let at-else = done in
-    let k = at-else in
-    let s = k in
-    unpainted_open s.requires.repaintable (routes s.args.rules.now) own_block k.block_start-start.ensures (sym closing ∙ at-else.if-closes_block.false) done.unpaint.ensures
+    unpainted_open c.requires.repaintable (routes c.args.rules.now) own_block c.block_start-start.ensures (sym closing ∙ c.if-closes_block.false) c.unpaint.ensures

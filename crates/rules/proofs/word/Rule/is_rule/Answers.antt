@@ -29,15 +29,10 @@ returns-then-length-territory c =
 pub returns-then-cleared-address : goal.returns-then-cleared-address
 returns-then-cleared-address c =
     let s = c.args in
-    let at = c in
     sym (stops (is_rule? s.territory s.word) (λ r.
-    c.if-cleared-address.true (rule_clear s.territory s.word _ _ _ at.address-address.ensures at.length-length.ensures c.cleared.ensures r)))
+    c.if-cleared-address.true (rule_clear s.territory s.word _ _ _ c.address-address.ensures c.length-length.ensures c.cleared.ensures r)))
 
 pub returns : goal.returns
 returns c =
-    let last = c in
-    let at = last in
-    let hop = at in
-    let s = hop in
-    rule_inside s.args.territory s.args.word _ _ _ at.address-address.ensures at.length-length.ensures last.cleared.ensures
-    _ s.requires (omega arith) (omega arith) (omega arith) (omega arith) c.if-cleared-address.false c.cleared-2.ensures
+    rule_inside c.args.territory c.args.word _ _ _ c.address-address.ensures c.length-length.ensures c.cleared.ensures
+    _ c.requires (omega arith) (omega arith) (omega arith) (omega arith) c.if-cleared-address.false c.cleared-2.ensures
