@@ -33,11 +33,10 @@ pub loop-stride-smaller : goal.loop-stride-smaller
 loop-stride-smaller c = omega (arith, c.loop-stride.invariant.1)
 
 pub loop-stride-preserved : goal.loop-stride-preserved
-loop-stride-preserved c =
-    (
-      bracket_down c.requires.listed c.loop-stride.invariant.0 _ (omega arith) (omega (arith, c.loop-stride.invariant.1)) (omega arith),
-      omega (arith, c.loop-stride.invariant.1),
-    )
+loop-stride-preserved c = (
+  bracket_down c.requires.listed c.loop-stride.invariant.0 _ (omega arith) (omega (arith, c.loop-stride.invariant.1)) (omega arith),
+  omega (arith, c.loop-stride.invariant.1),
+)
 
 pub between-requires-2 : goal.between-requires-2
 between-requires-2 c = record { listed = c.requires.listed; bracket = c.loop-stride.invariant.0 }
