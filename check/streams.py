@@ -325,6 +325,14 @@ def to_closed(command, data):
     return end_of(start(command, subprocess.PIPE, subprocess.DEVNULL, lambda: os.close(1)), data)
 
 
+def to_no_reader(command, data):
+    """A pipe that nobody reads any more."""
+    reading, stdout = os.pipe()
+    os.close(reading)
+    with open(stdout, "wb") as stdout:
+        return end_of(start(command, subprocess.PIPE, stdout), data)
+
+
 def to_small_file(room):
     """A file that cannot grow beyond so many bytes."""
     def prepare():
@@ -634,7 +642,7 @@ def outputs(rng):
     """Output that cannot be written or is slow."""
     eight = stream_of(EIGHT)
     refused = eight + eight
-    ways = [("closed", to_closed, errno.EBADF)]
+    ways = [("closed", to_closed, errno.EBADF), ("a pipe that nobody reads any more", to_no_reader, errno.EPIPE)]
     if os.path.exists("/dev/full"):
         ways.append(("/dev/full", to_full, errno.ENOSPC))
     else:

@@ -11,19 +11,23 @@ use Rattle.cells.specs.Memory.{Tables, tables_of}
 use Rattle.damage.specs.Damage.{segment_sound, sound_by}
 use Rattle.damage.proofs.Soundness.{is_clean?, segment_sound?, sound_by?}
 use Rattle.std.proofs.Common.{ap, not}
+use Rattle.damage.proofs.block_sound.Goals.{Else-not-is_pointer, Then-not-is_pointer}
 use Rattle.damage.proofs.block_sound.Goals as goal
+
+-- the two cases of the first cell
+other : (c : Then-not-is_pointer) → let s = c.args in get_or s.first.now s.block 0 < pointer_bit
+other c = lt_of_not-le (if_not (leb? _ _) c.is_pointer.ensures (ap not c.if-not-is_pointer.true))
+
+pointer : (c : Else-not-is_pointer) → let s = c.args in pointer_bit ≤ get_or s.first.now s.block 0
+pointer c = if_so (leb? _ _) c.is_pointer.ensures (ap not c.if-not-is_pointer.false)
 
 pub returns-then-opened : goal.returns-then-opened
 returns-then-opened c =
-    let other : let s = c.args in get_or s.first.now s.block 0 < pointer_bit =
-    lt_of_not-le (if_not (leb? _ _) c.is_pointer.ensures (ap not c.if-not-is_pointer.true)) in
-    sym (stops (sound_by? _ _ _) (λ b. true≢false (sym c.if-opened.true ∙ (b.other other).1)))
+    sym (stops (sound_by? _ _ _) (λ b. true≢false (sym c.if-opened.true ∙ (b.other (other (goal.at.returns-then-opened c).Then-not-is_pointer)).1)))
 
 pub returns-then-not-is_pointer : goal.returns-then-not-is_pointer
 returns-then-not-is_pointer c =
-    let other : let s = c.args in get_or s.first.now s.block 0 < pointer_bit =
-    lt_of_not-le (if_not (leb? _ _) c.is_pointer.ensures (ap not c.if-not-is_pointer.true)) in
-    let o = other in
+    let o = other (goal.at.returns-then-not-is_pointer c).Then-not-is_pointer in
     c.is_clean.ensures
     ∙ same_test (is_clean? _ _)
     (iff? (sound_by? _ _ _) (λ b. (b.other o).0)
@@ -31,26 +35,19 @@ returns-then-not-is_pointer c =
 
 pub returns-then-not-opened : goal.returns-then-not-opened
 returns-then-not-opened c =
-    let pointer : let s = c.args in pointer_bit ≤ get_or s.first.now s.block 0 =
-    if_so (leb? _ _) c.is_pointer.ensures (ap not c.if-not-is_pointer.false) in
     let s = c.args in
     let damaged : sound_by (tables_of s.first.now s.long.now s.owners.now) s.block s.opened ≡ false =
-    stops (sound_by? _ _ _) (λ b. true≢false (sym (b.pointer pointer).1 ∙ c.if-not-opened.true)) in
+    stops (sound_by? _ _ _) (λ b. true≢false (sym (b.pointer (pointer (goal.at.returns-then-not-opened c).Else-not-is_pointer)).1 ∙ c.if-not-opened.true)) in
     sym damaged
 
 pub segment-requires : goal.segment-requires
-segment-requires c =
-    let pointer : let s = c.args in pointer_bit ≤ get_or s.first.now s.block 0 =
-    if_so (leb? _ _) c.is_pointer.ensures (ap not c.if-not-is_pointer.false) in
-    pointer
+segment-requires c = pointer (goal.at.segment-requires c).Else-not-is_pointer
 
 pub returns : goal.returns
 unfolding segment_sound
 returns c =
-    let pointer : let s = c.args in pointer_bit ≤ get_or s.first.now s.block 0 =
-    if_so (leb? _ _) c.is_pointer.ensures (ap not c.if-not-is_pointer.false) in
     let s = c.args in
-    let p = pointer in
+    let p = pointer (goal.at.returns c).Else-not-is_pointer in
     let tables-of : Tables = tables_of s.first.now s.long.now s.owners.now in
     c.segment_sound.ensures ∙ ap (segment_sound tables-of s.block) c.segment.ensures
     ∙ same_test (segment_sound? tables-of _ _)

@@ -12,6 +12,7 @@ use Rattle.rules.specs.inner.Blocks.{CursorAt}
 use Rattle.damage.proofs.Soundness.{CleanRun, clean_run?, sound_by?, sound_run?}
 use Rattle.damage.proofs.Turns.{start_within, clean_run_lem, sound_run_lem, sound_here, walked_on}
 use Rattle.std.proofs.Common.{ap, not}
+use Rattle.damage.proofs.walk.Goals.{Else-not-clean_run}
 use Rattle.damage.proofs.walk.Goals as goal
 
 pub overflow_add-end : goal.overflow_add-end
@@ -39,12 +40,14 @@ returns-then-not-clean_run c =
     if_not (clean_run? _ _ _ _) c.clean_run.ensures (ap not c.if-not-clean_run.true)
     (clean_run_lem c.requires.sized c.requires.listed l.invariant.0 c.block_start-start.ensures c.stretch-closed.ensures (λ j m k. all j (omega arith) (omega arith)))))
 
+-- past the test, the stretch is clean
+clean : (c : Else-not-clean_run) → CleanRun width c.args.first.now c.loop-block.block c.stretch-closed.result
+clean c = if_so (clean_run? _ _ _ _) c.clean_run.ensures (ap not c.if-not-clean_run.false)
+
 pub returns-then-stop-end : goal.returns-then-stop-end
 returns-then-stop-end c =
-    let clean : CleanRun width c.args.first.now c.loop-block.block c.stretch-closed.result =
-    if_so (clean_run? _ _ _ _) c.clean_run.ensures (ap not c.if-not-clean_run.false) in
     sym (passes (sound_run? _ _ _ _) (λ k m j.
-    sound_run_lem c.requires.sized c.requires.listed c.loop-block.invariant.0 c.block_start-start.ensures c.stretch-closed.ensures clean k m (omega arith)))
+    sound_run_lem c.requires.sized c.requires.listed c.loop-block.invariant.0 c.block_start-start.ensures c.stretch-closed.ensures (clean (goal.at.returns-then-stop-end c).Else-not-clean_run) k m (omega arith)))
 
 -- past the second, the block after it has a cell
 pub block_start-next-requires : goal.block_start-next-requires
@@ -84,11 +87,9 @@ returns-then-not-block_sound c =
 
 pub loop-block-preserved : goal.loop-block-preserved
 loop-block-preserved c =
-    let clean : CleanRun width c.args.first.now c.loop-block.block c.stretch-closed.result =
-    if_so (clean_run? _ _ _ _) c.clean_run.ensures (ap not c.if-not-clean_run.false) in
     let l = c.loop-block in (
       walked_on c.requires.sized c.requires.listed l.invariant.0 c.block_start-start.ensures c.stretch-closed.ensures c.block_start-next.ensures c.pass-cursor.ensures
-          (omega arith) clean
+          (omega arith) (clean (goal.at.loop-block-preserved c).Else-not-clean_run)
           (if_so (sound_by? _ _ _) c.block_sound.ensures (ap not c.if-not-block_sound.false)),
       search rules,
     )

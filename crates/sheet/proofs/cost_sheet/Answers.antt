@@ -4,6 +4,7 @@ use Rattle.ground.proofs.Tests.{if_so, if_not}
 use Rattle.sheet.proofs.Refusing.{Tested, within?, refused_1, refused_30, refused_31, filled_0, tested_sound}
 use Rattle.sheet.proofs.Sorted.{ranked_run}
 use Rattle.std.proofs.Common.{ap, not}
+use Rattle.sheet.proofs.cost_sheet.Goals.{Else-not-within-2}
 use Rattle.sheet.proofs.cost_sheet.Goals as goal
 
 pub returns-then-octets-ne-COUNT : goal.returns-then-octets-ne-COUNT
@@ -28,59 +29,33 @@ returns-then-not-within-2 c =
     (if_so (within? 0 s.octets.now) c.within.ensures (ap not c.if-not-within.false))
     (if_not (within? 1 s.cents.now) c.within-2.ensures (ap not c.if-not-within-2.true))
 
-pub sort-sorted-requires : goal.sort-sorted-requires
-sort-sorted-requires c =
-    let tested : let s = c.args in Tested s.octets.now s.cents.now s.hops.now =
+-- past all tests
+tested : (c : Else-not-within-2) → let s = c.args in Tested s.octets.now s.cents.now s.hops.now
+tested c =
     let s = c.args in
     record {
       sizes = ((omega arith, omega arith), omega arith);
       octets = if_so (within? 0 s.octets.now) c.within.ensures (ap not c.if-not-within.false);
       cents = if_so (within? 1 s.cents.now) c.within-2.ensures (ap not c.if-not-within-2.false);
-    } in
-    record { sound = tested_sound tested; hops = c.number.ensures; in_list = omega arith }
+    }
+
+pub sort-sorted-requires : goal.sort-sorted-requires
+sort-sorted-requires c =
+    record { sound = tested_sound (tested (goal.at.sort-sorted-requires c).Else-not-within-2); hops = c.number.ensures; in_list = omega arith }
 
 pub returns-then-sorted : goal.returns-then-sorted
 returns-then-sorted c =
-    let tested : let s = c.args in Tested s.octets.now s.cents.now s.hops.now =
-    let s = c.args in
-    record {
-      sizes = ((omega arith, omega arith), omega arith);
-      octets = if_so (within? 0 s.octets.now) c.within.ensures (ap not c.if-not-within.false);
-      cents = if_so (within? 1 s.cents.now) c.within-2.ensures (ap not c.if-not-within-2.false);
-    } in
-    let t = tested in
+    let t = tested (goal.at.returns-then-sorted c).Else-not-within-2 in
     let e = c.sort-sorted.ensures in
     filled_0 t (ranked_run (tested_sound t) e.kept.0 (e.sorted_run c.if-sorted.true))
 
 pub build-requires : goal.build-requires
 build-requires c =
-    let tested : let s = c.args in Tested s.octets.now s.cents.now s.hops.now =
-    let s = c.args in
-    record {
-      sizes = ((omega arith, omega arith), omega arith);
-      octets = if_so (within? 0 s.octets.now) c.within.ensures (ap not c.if-not-within.false);
-      cents = if_so (within? 1 s.cents.now) c.within-2.ensures (ap not c.if-not-within-2.false);
-    } in
-    record { sound = tested_sound tested; hops = c.sort-sorted.ensures.kept.0 }
+    record { sound = tested_sound (tested (goal.at.build-requires c).Else-not-within-2); hops = c.sort-sorted.ensures.kept.0 }
 
 pub drain-requires : goal.drain-requires
 drain-requires c =
-    let tested : let s = c.args in Tested s.octets.now s.cents.now s.hops.now =
-    let s = c.args in
-    record {
-      sizes = ((omega arith, omega arith), omega arith);
-      octets = if_so (within? 0 s.octets.now) c.within.ensures (ap not c.if-not-within.false);
-      cents = if_so (within? 1 s.cents.now) c.within-2.ensures (ap not c.if-not-within-2.false);
-    } in
-    record { sound = tested_sound tested; hops = c.build.ensures.0; heap = c.build.ensures.1 }
+    record { sound = tested_sound (tested (goal.at.drain-requires c).Else-not-within-2); hops = c.build.ensures.0; heap = c.build.ensures.1 }
 
 pub returns : goal.returns
-returns c =
-    let tested : let s = c.args in Tested s.octets.now s.cents.now s.hops.now =
-    let s = c.args in
-    record {
-      sizes = ((omega arith, omega arith), omega arith);
-      octets = if_so (within? 0 s.octets.now) c.within.ensures (ap not c.if-not-within.false);
-      cents = if_so (within? 1 s.cents.now) c.within-2.ensures (ap not c.if-not-within-2.false);
-    } in
-    filled_0 tested c.drain.ensures
+returns c = filled_0 (tested (goal.at.returns c).Else-not-within-2) c.drain.ensures

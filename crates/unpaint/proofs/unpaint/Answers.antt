@@ -15,25 +15,33 @@ use Rattle.tables.specs.Cellwise.{unpaint_cell}
 use Rattle.tables.specs.inner.Ready.{Closable}
 use Rattle.tables.specs.inner.Ranges.{BlocksReady}
 use Rattle.tables.proofs.Repaints.{block_lent, blocks_ready, blocks-repainted, closable, points, owns, run_within, run_counted, run_repainted}
+use Rattle.unpaint.proofs.unpaint.Goals.{Else-length-le-WIDTH, Start, Then-length-le-WIDTH}
 use Rattle.unpaint.proofs.unpaint.Goals as goal
+
+-- the first block is that of the prefix
+from : (c : Start) → c.args.blocks.from ≡ block_of c.args.territory c.args.prefix.address
+from c = ap (λ (x : Blocks). x.from) c.requires.touched_blocks
+
+-- the blocks of a prefix of length up to 24
+ready : (c : Then-length-le-WIDTH) → let a = c.args in
+    BlocksReady a.territory a.blocks.from (a.blocks.from + a.blocks.count) (tables_of a.first.now a.long.now a.owners.now)
+ready c = blocks_ready c.requires.repaintable.ready c.if-length-le-WIDTH.true c.requires.touched_blocks
+
+-- the open block of a longer one
+open_block : (c : Else-length-le-WIDTH) → let a = c.args in Closable a.territory a.prefix (tables_of a.first.now a.long.now a.owners.now)
+open_block c = closable c.requires.repaintable c.if-length-le-WIDTH.false
 
 pub overflow_add-to : goal.overflow_add-to
 overflow_add-to c =
-    let ready : let a = c.args in
-    BlocksReady a.territory a.blocks.from (a.blocks.from + a.blocks.count) (tables_of a.first.now a.long.now a.owners.now) =
-    blocks_ready c.requires.repaintable.ready c.if-length-le-WIDTH.true c.requires.touched_blocks in
-    omega (arith, ready.within, few_firsts ready.sized)
+    let lent = ready (goal.at.overflow_add-to c).Then-length-le-WIDTH in
+    omega (arith, lent.within, few_firsts lent.sized)
 
 pub unpaint_blocks-tally-requires : goal.unpaint_blocks-tally-requires
 unpaint_blocks-tally-requires c =
-    let from : c.args.blocks.from ≡ block_of c.args.territory c.args.prefix.address =
-    ap (λ (x : Blocks). x.from) c.requires.touched_blocks in
-    let ready : let a = c.args in
-    BlocksReady a.territory a.blocks.from (a.blocks.from + a.blocks.count) (tables_of a.first.now a.long.now a.owners.now) =
-    let s = c in blocks_ready s.requires.repaintable.ready c.if-length-le-WIDTH.true s.requires.touched_blocks in
+    let at = goal.at.unpaint_blocks-tally-requires c in
     let pre = c.requires.repaintable.ready in
     let start = starts pre.sized.territory pre.formed pre.inside c.if-length-le-WIDTH.true in
-    record { blocks_ready = ready; asking = record { listed = c.requires.listed; kept = kept_later (omega (arith, from)) c.longest-run.ensures.kept } }
+    record { blocks_ready = ready at.Then-length-le-WIDTH; asking = record { listed = c.requires.listed; kept = kept_later (omega (arith, from at.Start)) c.longest-run.ensures.kept } }
 
 pub returns-then-length-le-WIDTH : goal.returns-then-length-le-WIDTH
 returns-then-length-le-WIDTH c =
@@ -41,49 +49,33 @@ returns-then-length-le-WIDTH c =
 
 pub offset_bounds-first-block : goal.offset_bounds-first-block
 offset_bounds-first-block c =
-    let from : c.args.blocks.from ≡ block_of c.args.territory c.args.prefix.address =
-    ap (λ (x : Blocks). x.from) c.requires.touched_blocks in
-    omega (arith, block_lent c.requires.repaintable.ready from, few_firsts c.requires.repaintable.ready.sized)
+    omega (arith, block_lent c.requires.repaintable.ready (from (goal.at.offset_bounds-first-block c).Start), few_firsts c.requires.repaintable.ready.sized)
 
 pub bounds-first-block : goal.bounds-first-block
-bounds-first-block c =
-    let from : c.args.blocks.from ≡ block_of c.args.territory c.args.prefix.address =
-    ap (λ (x : Blocks). x.from) c.requires.touched_blocks in
-    omega (arith, block_lent c.requires.repaintable.ready from)
+bounds-first-block c = omega (arith, block_lent c.requires.repaintable.ready (from (goal.at.bounds-first-block c).Start))
 
 pub segment-requires : goal.segment-requires
 segment-requires c =
-    let from : c.args.blocks.from ≡ block_of c.args.territory c.args.prefix.address =
-    ap (λ (x : Blocks). x.from) c.requires.touched_blocks in
-    let open_block : let a = c.args in Closable a.territory a.prefix (tables_of a.first.now a.long.now a.owners.now) =
-    closable c.requires.repaintable c.if-length-le-WIDTH.false in
-    omega (arith, points open_block from)
+    let at = goal.at.segment-requires c in
+    omega (arith, points (open_block at.Else-length-le-WIDTH) (from at.Start))
 
 pub prefix_cells-range-requires : goal.prefix_cells-range-requires
 prefix_cells-range-requires c =
-    let from : c.args.blocks.from ≡ block_of c.args.territory c.args.prefix.address =
-    ap (λ (x : Blocks). x.from) c.requires.touched_blocks in
-    let open_block : let a = c.args in Closable a.territory a.prefix (tables_of a.first.now a.long.now a.owners.now) =
-    closable c.requires.repaintable c.if-length-le-WIDTH.false in
-    let lent = (owns open_block from).lent in
-    record { segment_fits = omega (arith, c.segment.ensures, open_block.ready.sized.few); is_long = (omega (arith, c.if-length-le-WIDTH.false), open_block.ready.formed.short) }
+    let at = goal.at.prefix_cells-range-requires c in
+    let o = open_block at.Else-length-le-WIDTH in
+    let lent = (owns o (from at.Start)).lent in
+    record { segment_fits = omega (arith, c.segment.ensures, o.ready.sized.few); is_long = (omega (arith, c.if-length-le-WIDTH.false), o.ready.formed.short) }
 
 pub unpaint_run-tally-requires : goal.unpaint_run-tally-requires
 unpaint_run-tally-requires c =
-    let from : c.args.blocks.from ≡ block_of c.args.territory c.args.prefix.address =
-    ap (λ (x : Blocks). x.from) c.requires.touched_blocks in
-    let open_block : let a = c.args in Closable a.territory a.prefix (tables_of a.first.now a.long.now a.owners.now) =
-    closable c.requires.repaintable c.if-length-le-WIDTH.false in
+    let at = goal.at.unpaint_run-tally-requires c in
     let run = c.prefix_cells-range.ensures in
-    let small = ends_within c.requires.repaintable.ready.formed (omega arith) in record { within = run_within open_block from c.segment.ensures run; in_range = omega (arith, run.high, small); asking = record { listed = c.requires.listed; kept = c.longest-run.ensures.kept } }
+    let small = ends_within c.requires.repaintable.ready.formed (omega arith) in record { within = run_within (open_block at.Else-length-le-WIDTH) (from at.Start) c.segment.ensures run; in_range = omega (arith, run.high, small); asking = record { listed = c.requires.listed; kept = c.longest-run.ensures.kept } }
 
 pub returns : goal.returns
 returns c =
-    let from : c.args.blocks.from ≡ block_of c.args.territory c.args.prefix.address =
-    ap (λ (x : Blocks). x.from) c.requires.touched_blocks in
-    let open_block : let a = c.args in Closable a.territory a.prefix (tables_of a.first.now a.long.now a.owners.now) =
-    closable c.requires.repaintable c.if-length-le-WIDTH.false in
+    let at = goal.at.returns c in
     let run = c.prefix_cells-range.ensures in
     let f = unpaint_cell c.args.prefix.length (routes c.args.rules.now) in
-    run_repainted open_block from c.segment.ensures run f
-    (run_counted open_block from c.segment.ensures run f c.unpaint_run-tally.ensures.changed)
+    let o = open_block at.Else-length-le-WIDTH in
+    run_repainted o (from at.Start) c.segment.ensures run f (run_counted o (from at.Start) c.segment.ensures run f c.unpaint_run-tally.ensures.changed)

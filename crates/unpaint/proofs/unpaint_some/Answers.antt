@@ -16,53 +16,52 @@ use Rattle.tables.specs.inner.Ready.{segment_at, Owns}
 use Rattle.unpaint.specs.inner.Unpaint.{Asking}
 use Rattle.tables.proofs.Blocks.{block_points, segment_within, run_addressed, block_ends}
 use Rattle.unpaint.proofs.Unpainting.{run_taken, blocks_closed, closed_one}
+use Rattle.unpaint.proofs.unpaint_some.Goals.{After-block_start-start, Start, Then-is_pointer}
 use Rattle.unpaint.proofs.unpaint_some.Goals as goal
 
+-- the first block ends within the addresses
+end : (c : Start) → block_start c.args.territory (c.args.block + 1) ≤ 2 ^ 32
+end c = block_ends c.requires.blocks_ready.sized (omega arith) (omega (arith, c.requires.blocks_ready.within))
+
+-- the first cell is a pointer, and the segment is the block's own
+owns : (c : Then-is_pointer) → let a = c.args in let T = tables_of a.first.now a.long.now a.owners.now in Owns T a.block (segment_at T a.block)
+owns c =
+    c.requires.blocks_ready.owned c.args.block (le_refl _) (omega arith) (leb-true _ _ (sym c.is_pointer.ensures ∙ c.if-is_pointer.true))
+
+-- the run that is kept may be asked from there
+asking : (c : After-block_start-start) → let a = c.args in Asking a.rules.now a.used c.block_start-start.result a.run
+asking c =
+    let pre = c.requires.asking in record { listed = pre.listed; kept = kept_later (omega (arith, c.block_start-start.ensures)) pre.kept }
+
 pub block_start-start-requires : goal.block_start-start-requires
-block_start-start-requires c =
-    let end : block_start c.args.territory (c.args.block + 1) ≤ 2 ^ 32 =
-    block_ends c.requires.blocks_ready.sized (omega arith) (omega (arith, c.requires.blocks_ready.within)) in
-    omega (arith, end)
+block_start-start-requires c = omega (arith, end (goal.at.block_start-start-requires c).Start)
 
 pub segment_cells-range-requires : goal.segment_cells-range-requires
-segment_cells-range-requires c =
-    let owns : let a = c.args in let T = tables_of a.first.now a.long.now a.owners.now in Owns T a.block (segment_at T a.block) =
-    c.requires.blocks_ready.owned c.args.block (le_refl _) (omega arith) (leb-true _ _ (sym c.is_pointer.ensures ∙ c.if-is_pointer.true)) in
-    omega (arith, owns.points)
+segment_cells-range-requires c = omega (arith, (owns (goal.at.segment_cells-range-requires c).Then-is_pointer).points)
 
 pub unpaint_run-tally-requires : goal.unpaint_run-tally-requires
 unpaint_run-tally-requires c =
-    let end : block_start c.args.territory (c.args.block + 1) ≤ 2 ^ 32 =
-    block_ends c.requires.blocks_ready.sized (omega arith) (omega (arith, c.requires.blocks_ready.within)) in
-    let asking : let a = c.args in Asking a.rules.now a.used c.block_start-start.result a.run =
-    let pre = c.requires.asking in record { listed = pre.listed; kept = kept_later (omega (arith, c.block_start-start.ensures)) pre.kept } in
-    let owns : let a = c.args in let T = tables_of a.first.now a.long.now a.owners.now in Owns T a.block (segment_at T a.block) =
-    let s = c in
-    s.requires.blocks_ready.owned s.args.block (le_refl _) (omega arith) (leb-true _ _ (sym c.is_pointer.ensures ∙ c.if-is_pointer.true)) in
-    let run = c.segment_cells-range.ensures in record { within = segment_within c.requires.blocks_ready.sized owns (omega (arith, run.low)) (omega (arith, run.high)) (omega (arith, run.low, run.high)); in_range = omega (arith, run.high, c.block_start-start.ensures, end); asking = asking }
+    let at = goal.at.unpaint_run-tally-requires c in
+    let run = c.segment_cells-range.ensures in record { within = segment_within c.requires.blocks_ready.sized (owns at.Then-is_pointer) (omega (arith, run.low)) (omega (arith, run.high)) (omega (arith, run.low, run.high)); in_range = omega (arith, run.high, c.block_start-start.ensures, end at.Start); asking = asking at.After-block_start-start }
 
 pub returns-then-is_pointer : goal.returns-then-is_pointer
 returns-then-is_pointer c =
-    let owns : let a = c.args in let T = tables_of a.first.now a.long.now a.owners.now in Owns T a.block (segment_at T a.block) =
-    c.requires.blocks_ready.owned c.args.block (le_refl _) (omega arith) (leb-true _ _ (sym c.is_pointer.ensures ∙ c.if-is_pointer.true)) in
+    let at = goal.at.returns-then-is_pointer c in
     let a = c.args in
     let cells = c.segment_cells-range.ensures in
-    let run = run_addressed (unpaint_cell a.length (routes a.rules.now)) a.territory owns 0 (omega (arith, cells.low))
+    let run = run_addressed (unpaint_cell a.length (routes a.rules.now)) a.territory (owns at.Then-is_pointer) 0 (omega (arith, cells.low))
     (omega (arith, cells.low, cells.high)) (omega (arith, c.block_start-start.ensures)) c.unpaint_run-tally.ensures.changed in
     record {
       some = omega arith;
       within = omega (arith, c.requires.some_blocks);
       done = record {
-        blocks = block_points _ _ owns (omega (arith, cells.low)) (omega (arith, cells.high)) run;
+        blocks = block_points _ _ (owns at.Then-is_pointer) (omega (arith, cells.low)) (omega (arith, cells.high)) run;
         kept = kept_later (omega (arith, cells.high, c.block_start-start.ensures)) c.unpaint_run-tally.ensures.kept;
       };
     }
 
 pub run_at-kept-requires : goal.run_at-kept-requires
-run_at-kept-requires c =
-    let asking : let a = c.args in Asking a.rules.now a.used c.block_start-start.result a.run =
-    let pre = c.requires.asking in record { listed = pre.listed; kept = kept_later (omega (arith, c.block_start-start.ensures)) pre.kept } in
-    asking
+run_at-kept-requires c = asking (goal.at.run_at-kept-requires c).After-block_start-start
 
 pub piece-stop-requires : goal.piece-stop-requires
 piece-stop-requires c =

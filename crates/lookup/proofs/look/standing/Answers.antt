@@ -10,6 +10,7 @@ use Rattle.prefix.proofs.Spans.{few_blocks}
 use Rattle.prefix.proofs.Inside.{below_blocks, is_inside}
 use Rattle.lookup.specs.inner.Standing.{standing_of}
 use Rattle.lookup.proofs.Reading.{LentBy, lent_by?}
+use Rattle.lookup.proofs.look.standing.Goals.{Else-long-unit-ne0}
 use Rattle.lookup.proofs.look.standing.Goals as goal
 
 pub returns-then-length-gt-WIDTH : goal.returns-then-length-gt-WIDTH
@@ -45,10 +46,9 @@ returns-then-long-unit-ne0 c =
     let s = c.args in
     sym (cond_off _ _ (lent_by? s.unit s.first s.long s.territory) (λ l. c.if-long-unit-ne0.true l.whole_segments))
 
-pub returns-then-blocks-block_from : goal.returns-then-blocks-block_from
-unfolding standing_of
-returns-then-blocks-block_from c =
-    let lent : let s = c.args in LentBy s.unit s.first s.long s.territory =
+-- past the first five tests, what is lent is right
+lent : (c : Else-long-unit-ne0) → let s = c.args in LentBy s.unit s.first s.long s.territory
+lent c =
     let s = c.args in
     record {
       territory = record {
@@ -58,9 +58,13 @@ returns-then-blocks-block_from c =
       parts_a_block = omega arith ∙ ap (λ (k : ℕ). s.unit * k) c.blocks_of-blocks.ensures;
       whole_segments = omega arith;
       not_too_many = omega arith;
-    } in
+    }
+
+pub returns-then-blocks-block_from : goal.returns-then-blocks-block_from
+unfolding standing_of
+returns-then-blocks-block_from c =
     let s = c.args in
-    let l = lent in
+    let l = lent (goal.at.returns-then-blocks-block_from c).Else-long-unit-ne0 in
     sym (cond_on _ _ (lent_by? s.unit s.first s.long s.territory) l
     ∙ cond_off _ _ (contains? s.territory s.address)
     (λ k. let below = below_blocks l.territory (omega (arith, c.well_formed)) (omega arith) k in
@@ -69,19 +73,8 @@ returns-then-blocks-block_from c =
 pub returns : goal.returns
 unfolding standing_of
 returns c =
-    let lent : let s = c.args in LentBy s.unit s.first s.long s.territory =
     let s = c.args in
-    record {
-      territory = record {
-        wide = omega arith;
-        formed = record { short = omega arith; clear = omega (arith, mod-le s.territory.address (span s.territory.length)) };
-      };
-      parts_a_block = omega arith ∙ ap (λ (k : ℕ). s.unit * k) c.blocks_of-blocks.ensures;
-      whole_segments = omega arith;
-      not_too_many = omega arith;
-    } in
-    let s = c.args in
-    let l = lent in
+    let l = lent (goal.at.returns c).Else-long-unit-ne0 in
     sym (cond_on _ _ (lent_by? s.unit s.first s.long s.territory) l
     ∙ cond_on _ _ (contains? s.territory s.address)
     (is_inside l.territory (omega (arith, c.well_formed)) (omega arith) (omega (arith, c.blocks_of-blocks.ensures, c.block_from.ensures))))

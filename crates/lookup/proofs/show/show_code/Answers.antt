@@ -11,6 +11,7 @@ use Rattle.lookup.specs.Show.{first_cell, show_code}
 use Rattle.lookup.proofs.Reading.{Stands, stands, past_base, block_lent, stops_at}
 use Rattle.lookup.proofs.Showing.{refuses, accepts}
 use Rattle.std.proofs.Common.{ap, not}
+use Rattle.lookup.proofs.show.show_code.Goals.{After-block_of, Else-code-ne0}
 use Rattle.lookup.proofs.show.show_code.Goals as goal
 
 pub returns-then-code-ne0 : goal.returns-then-code-ne0
@@ -19,59 +20,46 @@ returns-then-code-ne0 c =
     let refused-at : ¬ (c.standing-code.result ≡ 0) = omega (arith, c.if-code-ne0.true) in
     stops_at (λ n. n) _ _ _ _ _ _ c.standing-code.ensures refused-at
 
+-- past the first test, the call may read
+may_read : (c : Else-code-ne0) → let s = c.args in
+    Stands (length s.first.now) (length s.long.now) s.territory s.address
+may_read c = let zero : c.standing-code.result ≡ 0 = omega (arith, c.if-code-ne0.false) in stands c.standing-code.ensures zero
+
+-- what is read there is the first cell
+read : (c : After-block_of) → let s = c.args in
+    get_or s.first.now c.block_of.result 0 ≡ first_cell s.first.now s.territory s.address
+read c = ap (λ k. get_or c.args.first.now k 0) c.block_of.ensures
+
 pub block_of-requires : goal.block_of-requires
-block_of-requires c =
-    let may_read : let s = c.args in
-    Stands (length s.first.now) (length s.long.now) s.territory s.address =
-    let zero : c.standing-code.result ≡ 0 = omega (arith, c.if-code-ne0.false) in stands c.standing-code.ensures zero in
-    past_base may_read
+block_of-requires c = past_base (may_read (goal.at.block_of-requires c).Else-code-ne0)
 
 pub bounds-first-block_of : goal.bounds-first-block_of
-bounds-first-block_of c =
-    let may_read : let s = c.args in
-    Stands (length s.first.now) (length s.long.now) s.territory s.address =
-    let zero : c.standing-code.result ≡ 0 = omega (arith, c.if-code-ne0.false) in stands c.standing-code.ensures zero in
-    omega (arith, block_lent may_read)
+bounds-first-block_of c = omega (arith, block_lent (may_read (goal.at.bounds-first-block_of c).Else-code-ne0))
 
 pub returns-then-not-is_pointer : goal.returns-then-not-is_pointer
 returns-then-not-is_pointer c =
-    let may_read : let s = c.args in
-    Stands (length s.first.now) (length s.long.now) s.territory s.address =
-    let zero : c.standing-code.result ≡ 0 = omega (arith, c.if-code-ne0.false) in stands c.standing-code.ensures zero in
-    let read : let s = c.args in
-    get_or s.first.now c.block_of.result 0 ≡ first_cell s.first.now s.territory s.address =
-    ap (λ k. get_or c.args.first.now k 0) c.block_of.ensures in
+    let at = goal.at.returns-then-not-is_pointer c in
     let s = c.args in
     let direct = if_not (leb? pointer_bit (get_or s.first.now c.block_of.result 0)) c.is_pointer.ensures (ap not c.if-not-is_pointer.true) in
-    accepts s.first.now s.long.now s.territory s.address may_read
-    (λ h. direct (omega (arith, h.pointer, read)))
+    accepts s.first.now s.long.now s.territory s.address (may_read at.Else-code-ne0)
+    (λ h. direct (omega (arith, h.pointer, read at.After-block_of)))
 
 pub segment-requires : goal.segment-requires
 segment-requires c = if_so (leb? pointer_bit _) c.is_pointer.ensures (ap not c.if-not-is_pointer.false)
 
 pub returns-then-long-segment : goal.returns-then-long-segment
 returns-then-long-segment c =
-    let may_read : let s = c.args in
-    Stands (length s.first.now) (length s.long.now) s.territory s.address =
-    let zero : c.standing-code.result ≡ 0 = omega (arith, c.if-code-ne0.false) in stands c.standing-code.ensures zero in
-    let read : let s = c.args in
-    get_or s.first.now c.block_of.result 0 ≡ first_cell s.first.now s.territory s.address =
-    ap (λ k. get_or c.args.first.now k 0) c.block_of.ensures in
+    let at = goal.at.returns-then-long-segment c in
     let s = c.args in
     let cell = first_cell s.first.now s.territory s.address in
-    let pointer : pointer_bit ≤ cell = omega (arith, (if_so (leb? pointer_bit _) c.is_pointer.ensures (ap not c.if-not-is_pointer.false)), read) in
-    let astray : length s.long.now / block_size ≤ segment_of cell = omega (arith, c.if-long-segment.true, read) in
-    refuses s.first.now s.long.now s.territory s.address may_read (record { pointer = pointer; not-lent = astray })
+    let pointer : pointer_bit ≤ cell = omega (arith, (if_so (leb? pointer_bit _) c.is_pointer.ensures (ap not c.if-not-is_pointer.false)), read at.After-block_of) in
+    let astray : length s.long.now / block_size ≤ segment_of cell = omega (arith, c.if-long-segment.true, read at.After-block_of) in
+    refuses s.first.now s.long.now s.territory s.address (may_read at.Else-code-ne0) (record { pointer = pointer; not-lent = astray })
 
 pub returns : goal.returns
 returns c =
-    let may_read : let s = c.args in
-    Stands (length s.first.now) (length s.long.now) s.territory s.address =
-    let zero : c.standing-code.result ≡ 0 = omega (arith, c.if-code-ne0.false) in stands c.standing-code.ensures zero in
-    let read : let s = c.args in
-    get_or s.first.now c.block_of.result 0 ≡ first_cell s.first.now s.territory s.address =
-    ap (λ k. get_or c.args.first.now k 0) c.block_of.ensures in
+    let at = goal.at.returns c in
     let s = c.args in
     let cell = first_cell s.first.now s.territory s.address in
-    let lent : segment_of cell < length s.long.now / block_size = omega (arith, c.if-long-segment.false, read) in
-    accepts s.first.now s.long.now s.territory s.address may_read (λ h. omega (arith, h.not-lent))
+    let lent : segment_of cell < length s.long.now / block_size = omega (arith, c.if-long-segment.false, read at.After-block_of) in
+    accepts s.first.now s.long.now s.territory s.address (may_read at.Else-code-ne0) (λ h. omega (arith, h.not-lent))

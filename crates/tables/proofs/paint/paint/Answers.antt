@@ -10,21 +10,29 @@ use Rattle.cells.proofs.Lending.{few_firsts}
 use Rattle.tables.specs.inner.Ready.{Closable}
 use Rattle.tables.specs.inner.Ranges.{BlocksReady}
 use Rattle.tables.proofs.Repaints.{block_lent, blocks_ready, blocks-repainted, closable, points, owns, run_within, run_repainted}
+use Rattle.tables.proofs.paint.paint.Goals.{Else-length-le-WIDTH, Start, Then-length-le-WIDTH}
 use Rattle.tables.proofs.paint.paint.Goals as goal
+
+-- the first block is that of the prefix
+from : (c : Start) → c.args.blocks.from ≡ block_of c.args.territory c.args.prefix.address
+from c = ap (λ (x : Blocks). x.from) c.requires.touched_blocks
+
+-- the blocks of a prefix of length up to 24
+ready : (c : Then-length-le-WIDTH) → let a = c.args in
+    BlocksReady a.territory a.blocks.from (a.blocks.from + a.blocks.count) (tables_of a.first.now a.long.now a.owners.now)
+ready c = blocks_ready c.requires.repaintable.ready c.if-length-le-WIDTH.true c.requires.touched_blocks
+
+-- the open block of a longer one
+open_block : (c : Else-length-le-WIDTH) → let a = c.args in Closable a.territory a.prefix (tables_of a.first.now a.long.now a.owners.now)
+open_block c = closable c.requires.repaintable c.if-length-le-WIDTH.false
 
 pub overflow_add-to : goal.overflow_add-to
 overflow_add-to c =
-    let ready : let a = c.args in
-    BlocksReady a.territory a.blocks.from (a.blocks.from + a.blocks.count) (tables_of a.first.now a.long.now a.owners.now) =
-    blocks_ready c.requires.repaintable.ready c.if-length-le-WIDTH.true c.requires.touched_blocks in
-    omega (arith, ready.within, few_firsts ready.sized)
+    let lent = ready (goal.at.overflow_add-to c).Then-length-le-WIDTH in
+    omega (arith, lent.within, few_firsts lent.sized)
 
 pub paint_blocks-requires : goal.paint_blocks-requires
-paint_blocks-requires c =
-    let ready : let a = c.args in
-    BlocksReady a.territory a.blocks.from (a.blocks.from + a.blocks.count) (tables_of a.first.now a.long.now a.owners.now) =
-    blocks_ready c.requires.repaintable.ready c.if-length-le-WIDTH.true c.requires.touched_blocks in
-    ready
+paint_blocks-requires c = ready (goal.at.paint_blocks-requires c).Then-length-le-WIDTH
 
 pub returns-then-length-le-WIDTH : goal.returns-then-length-le-WIDTH
 returns-then-length-le-WIDTH c =
@@ -32,45 +40,29 @@ returns-then-length-le-WIDTH c =
 
 pub offset_bounds-first-block : goal.offset_bounds-first-block
 offset_bounds-first-block c =
-    let from : c.args.blocks.from ≡ block_of c.args.territory c.args.prefix.address =
-    ap (λ (x : Blocks). x.from) c.requires.touched_blocks in
-    omega (arith, block_lent c.requires.repaintable.ready from, few_firsts c.requires.repaintable.ready.sized)
+    omega (arith, block_lent c.requires.repaintable.ready (from (goal.at.offset_bounds-first-block c).Start), few_firsts c.requires.repaintable.ready.sized)
 
 pub bounds-first-block : goal.bounds-first-block
-bounds-first-block c =
-    let from : c.args.blocks.from ≡ block_of c.args.territory c.args.prefix.address =
-    ap (λ (x : Blocks). x.from) c.requires.touched_blocks in
-    omega (arith, block_lent c.requires.repaintable.ready from)
+bounds-first-block c = omega (arith, block_lent c.requires.repaintable.ready (from (goal.at.bounds-first-block c).Start))
 
 pub segment-requires : goal.segment-requires
 segment-requires c =
-    let from : c.args.blocks.from ≡ block_of c.args.territory c.args.prefix.address =
-    ap (λ (x : Blocks). x.from) c.requires.touched_blocks in
-    let open_block : let a = c.args in Closable a.territory a.prefix (tables_of a.first.now a.long.now a.owners.now) =
-    closable c.requires.repaintable c.if-length-le-WIDTH.false in
-    omega (arith, points open_block from)
+    let at = goal.at.segment-requires c in
+    omega (arith, points (open_block at.Else-length-le-WIDTH) (from at.Start))
 
 pub prefix_cells-range-requires : goal.prefix_cells-range-requires
 prefix_cells-range-requires c =
-    let from : c.args.blocks.from ≡ block_of c.args.territory c.args.prefix.address =
-    ap (λ (x : Blocks). x.from) c.requires.touched_blocks in
-    let open_block : let a = c.args in Closable a.territory a.prefix (tables_of a.first.now a.long.now a.owners.now) =
-    closable c.requires.repaintable c.if-length-le-WIDTH.false in
-    let lent = (owns open_block from).lent in
-    record { segment_fits = omega (arith, c.segment.ensures, open_block.ready.sized.few); is_long = (omega (arith, c.if-length-le-WIDTH.false), open_block.ready.formed.short) }
+    let at = goal.at.prefix_cells-range-requires c in
+    let o = open_block at.Else-length-le-WIDTH in
+    let lent = (owns o (from at.Start)).lent in
+    record { segment_fits = omega (arith, c.segment.ensures, o.ready.sized.few); is_long = (omega (arith, c.if-length-le-WIDTH.false), o.ready.formed.short) }
 
 pub paint_run-requires : goal.paint_run-requires
 paint_run-requires c =
-    let from : c.args.blocks.from ≡ block_of c.args.territory c.args.prefix.address =
-    ap (λ (x : Blocks). x.from) c.requires.touched_blocks in
-    let open_block : let a = c.args in Closable a.territory a.prefix (tables_of a.first.now a.long.now a.owners.now) =
-    closable c.requires.repaintable c.if-length-le-WIDTH.false in
-    run_within open_block from c.segment.ensures c.prefix_cells-range.ensures
+    let at = goal.at.paint_run-requires c in
+    run_within (open_block at.Else-length-le-WIDTH) (from at.Start) c.segment.ensures c.prefix_cells-range.ensures
 
 pub returns : goal.returns
 returns c =
-    let from : c.args.blocks.from ≡ block_of c.args.territory c.args.prefix.address =
-    ap (λ (x : Blocks). x.from) c.requires.touched_blocks in
-    let open_block : let a = c.args in Closable a.territory a.prefix (tables_of a.first.now a.long.now a.owners.now) =
-    closable c.requires.repaintable c.if-length-le-WIDTH.false in
-    run_repainted open_block from c.segment.ensures c.prefix_cells-range.ensures _ c.paint_run.ensures
+    let at = goal.at.returns c in
+    run_repainted (open_block at.Else-length-le-WIDTH) (from at.Start) c.segment.ensures c.prefix_cells-range.ensures _ c.paint_run.ensures

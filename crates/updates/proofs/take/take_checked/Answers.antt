@@ -10,47 +10,41 @@ use Rattle.updates.specs.Effects.{effect, retabled, unpainted}
 use Rattle.updates.specs.inner.Steps.{Takable}
 use Rattle.updates.proofs.Taking.{left-count, left_listed, left-routes}
 use Rattle.updates.proofs.Outcomes.{refuses, accepts}
+use Rattle.updates.proofs.take.take_checked.Goals.{Else-checked-ne0}
 use Rattle.updates.proofs.take.take_checked.Goals as goal
 
 pub returns-then-checked-ne0 : goal.returns-then-checked-ne0
 returns-then-checked-ne0 c =
+    let m = lent_of c.args.first.now c.args.long.now c.args.owners.now c.args.rules.now in
     let refused : ¬ (c.args.checked.code ≡ 0) = omega (arith, c.if-checked-ne0.true) in
-    refuses (lent_of c.args.first.now c.args.long.now c.args.owners.now c.args.rules.now) (effect c.args.territory (takes c.args.prefix) (lent_of c.args.first.now c.args.long.now c.args.owners.now c.args.rules.now)) refused
+    refuses m (effect c.args.territory (takes c.args.prefix) m) refused
+
+-- past the test, no refusal
+zero : (c : Else-checked-ne0) → c.args.checked.code ≡ 0
+zero c = omega (arith, c.if-checked-ne0.false)
+
+takable : (c : Else-checked-ne0) → Takable c.args.territory c.args.prefix c.args.checked (lent_of c.args.first.now c.args.long.now c.args.owners.now c.args.rules.now)
+takable c = c.requires (zero c)
 
 pub take_out-requires : goal.take_out-requires
 take_out-requires c =
-    let zero : c.args.checked.code ≡ 0 =
-    omega (arith, c.if-checked-ne0.false) in
-    let takable : Takable c.args.territory c.args.prefix c.args.checked (lent_of c.args.first.now c.args.long.now c.args.owners.now c.args.rules.now) =
-    c.requires zero in
-    let A = takable in record { listed = A.listed; well_formed = A.repaintable.ready.formed; place_is = A.place; is_found = A.lives }
+    let A = takable (goal.at.take_out-requires c).Else-checked-ne0 in record { listed = A.listed; well_formed = A.repaintable.ready.formed; place_is = A.place; is_found = A.lives }
 
 pub overflow_sub-checked : goal.overflow_sub-checked
-overflow_sub-checked c =
-    let zero : c.args.checked.code ≡ 0 =
-    omega (arith, c.if-checked-ne0.false) in
-    let takable : Takable c.args.territory c.args.prefix c.args.checked (lent_of c.args.first.now c.args.long.now c.args.owners.now c.args.rules.now) =
-    c.requires zero in
-    omega (arith, left-count takable)
+overflow_sub-checked c = omega (arith, left-count (takable (goal.at.overflow_sub-checked c).Else-checked-ne0))
 
 pub unpaint_or_close-cells-requires : goal.unpaint_or_close-cells-requires
 unpaint_or_close-cells-requires c =
-    let zero : c.args.checked.code ≡ 0 =
-    omega (arith, c.if-checked-ne0.false) in
-    let takable : Takable c.args.territory c.args.prefix c.args.checked (lent_of c.args.first.now c.args.long.now c.args.owners.now c.args.rules.now) =
-    c.requires zero in
-    let A = takable in
+    let A = takable (goal.at.unpaint_or_close-cells-requires c).Else-checked-ne0 in
     record { repaintable = A.repaintable; listed = left_listed A c.take_out.ensures (omega (arith, left-count A)); touched_blocks = A.touches }
 
 pub returns : goal.returns
 unfolding retabled
 returns c =
-    let zero : c.args.checked.code ≡ 0 =
-    omega (arith, c.if-checked-ne0.false) in
-    let takable : let s = c in Takable s.args.territory s.args.prefix s.args.checked (lent_of s.args.first.now s.args.long.now s.args.owners.now s.args.rules.now) =
-    c.requires zero in
+    let m = lent_of c.args.first.now c.args.long.now c.args.owners.now c.args.rules.now in
+    let at = goal.at.returns c in
     let t = c.args.territory in
     let p = c.args.prefix in
-    accepts t (takes p) (lent_of c.args.first.now c.args.long.now c.args.owners.now c.args.rules.now) zero
-    (c.unpaint_or_close-cells.ensures ∙ ap (λ (rs : List Route). leaves (unpainted t p rs) (lent_of c.args.first.now c.args.long.now c.args.owners.now c.args.rules.now).tables) (left-routes takable c.take_out.ensures))
+    accepts t (takes p) m (zero at.Else-checked-ne0)
+    (c.unpaint_or_close-cells.ensures ∙ ap (λ (rs : List Route). leaves (unpainted t p rs) m.tables) (left-routes (takable at.Else-checked-ne0) c.take_out.ensures))
     c.take_out.ensures
