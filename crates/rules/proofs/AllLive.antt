@@ -1,14 +1,16 @@
 -- Words that are all live: a list that was tested, and the live ones of such a list are such words. Assumes nothing.
 use mathlib.Core.Path.{◌≡◌, sym, ap, subst, ◌∙◌}
+use mathlib.Core.Bool.{Bool}
 use mathlib.Core.List.{List, map}
 use Prim.Native.Nat.{ℕ, ◌≤◌, ◌<◌}
 use native.Mathlib.Omega.{arith}
 use lib.ListN.{length, get_or, take, get_or-eq_default}
 use lib.Seq.{take-length, length-take-le, get_or-take}
+use Rattle.prefix.specs.declared.Prefix.{Prefix}
 use Rattle.prefix.specs.Routes.{IsRoute}
-use Rattle.rules.specs.Words.{route_of}
-use Rattle.rules.specs.Rules.{live_words, routes}
-use Rattle.rules.specs.inner.Places.{Listed, Ordered, prefix_at}
+use Rattle.rules.specs.Words.{prefix_of, route_of, key_of}
+use Rattle.rules.specs.Rules.{live_words, routes, is_live}
+use Rattle.rules.specs.inner.Places.{Listed, Ordered, prefix_at, key_at, PlaceIs}
 use Rattle.rules.proofs.Words.{some_word, word_order}
 use Rattle.rules.proofs.LiveWords.{live_first, live-take}
 use Rattle.rules.proofs.Indices.{routes_index, rise_routes, listed_within, listed_route, listed_order}
@@ -49,3 +51,17 @@ module _ {ws : List ℕ} {n : ℕ} (s : Listed ws n) where
   pub front_routes : routes (take n ws) ≡ routes ws
   unfolding routes
   front_routes = ap (map route_of) (ordered_live front_listed ∙ front_live)
+
+  -- a place among them is one in the list
+  pub front_place : {p : Prefix} {at : ℕ} {found : Bool} → PlaceIs (take n ws) n p at found → PlaceIs ws n p at found
+  front_place {p} q = record {
+    position = record {
+      within = q.position.within;
+      below = λ i l. omega (arith, q.position.below i l, front_key i (omega (arith, q.position.within)));
+      above = λ i l h. omega (arith, q.position.above i l h, front_key i h);
+    };
+    says_live = q.says_live ∙ ap (is_live p) front_routes;
+  }
+    where
+      front_key : (i : ℕ) → i < n → key_at (take n ws) i ≡ key_at ws i
+      front_key i l = ap (λ (w : ℕ). key_of (prefix_of w)) (get_or-take n ws i 0 l)
