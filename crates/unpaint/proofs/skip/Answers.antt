@@ -1,11 +1,15 @@
 -- The goals that the check leaves.
 use mathlib.Core.Path.{sym, ◌∙◌}
 use native.Mathlib.Omega.{arith}
-use Rattle.unpaint.proofs.Unpainting.{skip_start, skip_more}
+use Rattle.unpaint.proofs.Unpainting.{each_more}
 use Rattle.unpaint.proofs.skip.Goals as goal
 
-pub loop-i-init : goal.loop-i-init
-loop-i-init c = skip_start c.requires.ordered
+pub returns-then-not-passes : goal.returns-then-not-passes
+returns-then-not-passes g c test h = record { low = c.loop-i.auto.i; high = omega arith; pass = c.loop-i.invariant test h }
 
 pub loop-i-preserved : goal.loop-i-preserved
-loop-i-preserved c = skip_more c.loop-i.invariant (omega arith) (sym c.stays.ensures ∙ c.if-not-stays.false)
+loop-i-preserved g c test h = each_more _ (c.loop-i.invariant test h) (sym (h _ _ c.passes.ensures) ∙ c.if-not-passes.false)
+
+pub returns : goal.returns
+returns g c test h =
+    record { low = c.requires.inside.ordered; high = omega arith; pass = λ k low high. c.loop-i.invariant test h k low (omega arith) }

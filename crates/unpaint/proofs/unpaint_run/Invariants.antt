@@ -4,7 +4,7 @@ use Prim.Native.Nat.{◌+◌, ◌-◌}
 use Rattle.rules.specs.Rules.{routes}
 use Rattle.runs.specs.inner.Kept.{Kept}
 use Rattle.tables.specs.Cellwise.{unpaint_cell}
-use Rattle.tables.proofs.Ranges.{Reached}
+use Rattle.unpaint.proofs.Unpainting.{Reached}
 use Rattle.unpaint.proofs.unpaint_run.Given as goal
 
 abbrev pub invariant-loop-i : goal.invariant-loop-i

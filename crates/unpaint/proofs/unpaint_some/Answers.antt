@@ -6,6 +6,7 @@ use native.Mathlib.Nat.{le_refl}
 use native.Mathlib.Omega.{arith}
 use lib.ListN.{get_or}
 use borrow.Author.Tests.{leb-true, leb-false}
+use borrow.Author.Rules.{rules}
 use Rattle.prefix.specs.Geometry.{block_start}
 use Rattle.cells.specs.Cells.{pointer_bit}
 use Rattle.cells.specs.Memory.{tables_of}
@@ -13,7 +14,7 @@ use Rattle.rules.specs.Rules.{routes}
 use Rattle.runs.proofs.Covered.{kept_later}
 use Rattle.tables.specs.Cellwise.{unpaint_cell}
 use Rattle.tables.specs.inner.Ready.{segment_at, Owns}
-use Rattle.unpaint.specs.inner.Unpaint.{Asking}
+use Rattle.unpaint.specs.inner.Unpaint.{Asking, replaced}
 use Rattle.tables.proofs.Blocks.{block_points, segment_within, run_addressed, block_ends}
 use Rattle.unpaint.proofs.Unpainting.{run_taken, blocks_closed, closed_one}
 use Rattle.unpaint.proofs.unpaint_some.Goals.{After-block_start-start, Start, Then-is_pointer}
@@ -36,19 +37,19 @@ asking c =
 pub block_start-start-requires : goal.block_start-start-requires
 block_start-start-requires c = omega (arith, end (goal.at.block_start-start-requires c).Start)
 
-pub segment_cells-range-requires : goal.segment_cells-range-requires
-segment_cells-range-requires c = omega (arith, (owns (goal.at.segment_cells-range-requires c).Then-is_pointer).points)
+pub segment_cells-cells-requires : goal.segment_cells-cells-requires
+segment_cells-cells-requires c = omega (arith, (owns (goal.at.segment_cells-cells-requires c).Then-is_pointer).points)
 
 pub unpaint_run-tally-requires : goal.unpaint_run-tally-requires
 unpaint_run-tally-requires c =
     let at = goal.at.unpaint_run-tally-requires c in
-    let run = c.segment_cells-range.ensures in record { within = segment_within c.requires.blocks_ready.sized (owns at.Then-is_pointer) (omega (arith, run.low)) (omega (arith, run.high)) (omega (arith, run.low, run.high)); in_range = omega (arith, run.high, c.block_start-start.ensures, end at.Start); asking = asking at.After-block_start-start }
+    let run = c.segment_cells-cells.ensures in record { within = segment_within c.requires.blocks_ready.sized (owns at.Then-is_pointer) (omega (arith, run.low)) (omega (arith, run.high)) (omega (arith, run.low, run.high)); in_range = omega (arith, run.high, c.block_start-start.ensures, end at.Start); asking = asking at.After-block_start-start }
 
 pub returns-then-is_pointer : goal.returns-then-is_pointer
 returns-then-is_pointer c =
     let at = goal.at.returns-then-is_pointer c in
     let a = c.args in
-    let cells = c.segment_cells-range.ensures in
+    let cells = c.segment_cells-cells.ensures in
     let run = run_addressed (unpaint_cell a.length (routes a.rules.now)) a.territory (owns at.Then-is_pointer) 0 (omega (arith, cells.low))
     (omega (arith, cells.low, cells.high)) (omega (arith, c.block_start-start.ensures)) c.unpaint_run-tally.ensures.changed in
     record {
@@ -69,8 +70,8 @@ piece-stop-requires c =
     leb-false _ _ (sym c.is_pointer.ensures ∙ c.if-is_pointer.false) in
     record { inside = record { ordered = omega arith; inside = c.requires.blocks_ready.within }; some_blocks = (omega arith, omega (arith, c.run_at-kept.ensures.past)); closed = closed_one c.args.block c.args.first.now direct }
 
-pub replace_run-requires : goal.replace_run-requires
-replace_run-requires c =
+pub change_run-changed-requires-clause-within : goal.change_run-changed-requires-clause-within
+change_run-changed-requires-clause-within c =
     let piece = c.piece-stop.ensures in
     record { ordered = omega (arith, piece.some); inside = omega (arith, piece.within, c.requires.blocks_ready.within); few = omega (arith, piece.few) }
 
@@ -86,7 +87,7 @@ returns c =
       done = record {
         blocks = blocks_closed piece.closed
             (run_taken a.length (block_start a.territory) found.kept (λ k low high. (omega (arith, start), omega (arith, start, piece.fit)))
-            c.replace_run.ensures.changed (omega arith));
+            (c.change_run-changed.ensures.changed (replaced a.length c.run_at-kept.result.cell) (λ x y h. search rules)) (omega arith));
         kept = kept_later (omega (arith, start, piece.some)) found.kept;
       };
     }
