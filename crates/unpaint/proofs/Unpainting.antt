@@ -24,7 +24,7 @@ use Rattle.runs.specs.declared.Run.{Run}
 use Rattle.runs.specs.inner.Kept.{Kept}
 use Rattle.tables.specs.Cellwise.{unpaint_cell}
 use Rattle.tables.specs.inner.Ranges.{RunChanged, BlocksChanged}
-use Rattle.unpaint.specs.inner.Unpaint.{stays, passed, replaced, Skipped, Closed}
+use Rattle.unpaint.specs.inner.Unpaint.{stays, passed, replaced, Pass, Closed}
 use Rattle.tables.proofs.Ranges.{in_range?, run_none, run_cong, run_then}
 use Rattle.tables.proofs.Segments.{direct_among?, open_among?}
 use Rattle.tables.proofs.Blocks.{blocks_then}
@@ -64,10 +64,10 @@ run_stay g from to cells stay = record {
 }
 
 -- those that are passed over
-pub skipped_run : (l : ℕ) {from to at : ℕ} {cells : List ℕ} → Skipped (stays l) from to cells at → (rs : List Route) (address : ℕ → ℕ)
-    → RunChanged (λ k. unpaint_cell l rs (address k)) from at cells cells 0
-skipped_run l {cells = cells} s rs address =
-    run_stay _ _ _ cells (λ k low high. unpaint_off l rs (address k) (get_or cells k 0) (says (stays? l (get_or cells k 0)) (s.pass k low high)))
+pub passed_run : (l : ℕ) {from to : ℕ} {cells : List ℕ} → Pass (stays l) from to cells → (rs : List Route) (address : ℕ → ℕ)
+    → RunChanged (λ k. unpaint_cell l rs (address k)) from to cells cells 0
+passed_run l {cells = cells} pass rs address =
+    run_stay _ _ _ cells (λ k low high. unpaint_off l rs (address k) (get_or cells k 0) (says (stays? l (get_or cells k 0)) (pass k low high)))
 
 -- all take the cell of a run that holds for their addresses
 pub run_taken : (l : ℕ) {ws : List ℕ} {used a new from to r : ℕ} {run : Run} {cells after : List ℕ} (address : ℕ → ℕ) → Kept ws used a run
@@ -115,20 +115,20 @@ blocks_closed {t} {f} {from} {to} {T = T} closed c = record {
 }
 
 -- whose first cells are passed over
-pub skipped_blocks : (l : ℕ) {t : Prefix} {from to at : ℕ} {T : Tables} → Skipped (passed l) from to T.first at → (rs : List Route)
-    → BlocksChanged t (unpaint_cell l rs) from at T T.first T.long 0
-skipped_blocks l {t} {T = T} s rs =
-    blocks_closed (λ k low high. let n = (says (passed? l (get_or T.first k 0)) (s.pass k low high)).0 in omega arith)
+passed_blocks : (l : ℕ) {t : Prefix} {from to : ℕ} {T : Tables} → Pass (passed l) from to T.first → (rs : List Route)
+    → BlocksChanged t (unpaint_cell l rs) from to T T.first T.long 0
+passed_blocks l {t} {T = T} pass rs =
+    blocks_closed (λ k low high. let n = (says (passed? l (get_or T.first k 0)) (pass k low high)).0 in omega arith)
     (run_stay _ _ _ T.first (λ k low high.
-    unpaint_off l rs (block_start t k) (get_or T.first k 0) (says (passed? l (get_or T.first k 0)) (s.pass k low high)).1))
+    unpaint_off l rs (block_start t k) (get_or T.first k 0) (says (passed? l (get_or T.first k 0)) (pass k low high)).1))
 
 -- the blocks before mid are changed, and those after it that are passed over stay
-pub blocks_passed : (l : ℕ) (rs : List Route) {t : Prefix} {T : Tables} {first long : List ℕ} {from mid to at r : ℕ}
-    → BlocksChanged t (unpaint_cell l rs) from mid T first long r → from ≤ mid → Skipped (passed l) mid to first at
-    → BlocksChanged t (unpaint_cell l rs) from at T first long r
-blocks_passed l rs {t} {T} {first} {long} {from} {mid} {at = at} {r = r} p low s =
-    subst (λ (n : ℕ). BlocksChanged t (unpaint_cell l rs) from at T first long n) (add-zero r)
-    (blocks_then p low s.low (skipped_blocks l {T = tables_of first long T.owners} s rs))
+pub blocks_passed : (l : ℕ) (rs : List Route) {t : Prefix} {T : Tables} {first long : List ℕ} {from mid to r : ℕ}
+    → BlocksChanged t (unpaint_cell l rs) from mid T first long r → from ≤ mid → mid ≤ to → Pass (passed l) mid to first
+    → BlocksChanged t (unpaint_cell l rs) from to T first long r
+blocks_passed l rs {t} {T} {first} {long} {from} {mid} {to} {r} p low high pass =
+    subst (λ (n : ℕ). BlocksChanged t (unpaint_cell l rs) from to T first long n) (add-zero r)
+    (blocks_then p low high (passed_blocks l {T = tables_of first long T.owners} pass rs))
 
 -- ---- up to i, and at i
 

@@ -3,7 +3,7 @@
 // first; those from there up to the run's end then take its cell in a loop that asks nothing.
 #![tactic(auto)]
 
-ghost use Rattle.std.specs.Prelude.{◌≡◌, ℕ, Bool, true, ◌+◌, ◌-◌, ◌^◌, ◌≤◌, ◌<◌, All, length};
+ghost use Rattle.std.specs.Prelude.{◌≡◌, ℕ, Bool, true, ◌+◌, ◌-◌, ◌^◌, ◌≤◌, ◌<◌, All, IfSome, MatchOption, length};
 ghost use Rattle.prefix.specs.Geometry.{block_size, block_start, touched};
 ghost use Rattle.cells.specs.Cells.{pointer_bit};
 ghost use Rattle.cells.specs.Memory.{tables_of};
@@ -13,7 +13,7 @@ ghost use Rattle.tables.specs.Cellwise.{unpaint_cell, repainted};
 ghost use Rattle.tables.specs.Changes.{left, leaves};
 ghost use Rattle.tables.specs.inner.Ready.{Repaintable};
 ghost use Rattle.tables.specs.inner.Ranges.{Within, BlocksReady};
-ghost use Rattle.unpaint.specs.inner.Unpaint.{Asking, Found, stays, passed, replaced, Inside, Skipped, Closed, PieceIs};
+ghost use Rattle.unpaint.specs.inner.Unpaint.{Asking, Found, stays, passed, replaced, Inside, Pass, Closed, PieceIs};
 ghost use Rattle.unpaint.specs.inner.Unpaint.{RunUnpainted, BlocksUnpainted, SomeUnpainted};
 
 use cells::cell::Cell;
@@ -22,13 +22,6 @@ use prefix::geometry::{Block, Blocks, block_start};
 use runs::Run;
 use tables::change::change_run;
 use tables::place;
-
-// How many cells differ, and the run that then holds.
-#[derive(Clone, Copy)]
-pub struct Tally {
-    pub changed: u32,
-    pub run: Run,
-}
 
 // Whether a withdrawal of a prefix of this length leaves the cell.
 #[tactic(auto, unfolding(crate::specs::inner::Unpaint::stays))]
@@ -47,29 +40,30 @@ fn replaced(old: u32, new: u32, length: u32) -> u32
     if stays(old, length) { old } else { new }
 }
 
-// The first of the cells from..to that does not pass the test, or `to`.
-fn skip<F: Fn(u32) -> bool>(cells: &[u32], from: usize, to: usize, passes: F) -> usize
+// Passes over those of the cells from..to that pass the test, up to the first that does not.
+fn pass_over<F: Fn(u32) -> bool>(cells: &[u32], from: usize, to: usize, passes: F) -> Option<usize>
     requires inside { Inside from to cells.now }
     requires callable { F.IsAlwaysCallable passes }
-    ensures { (test : ℕ → Bool) → ((x : ℕ) (y : Bool) → F.post passes x y → y ≡ test x) → Skipped test from to cells.now result }
+    ensures found { IfSome result (λ at. (from ≤ at) × (at < to)) }
+    ensures passed { (test : ℕ → Bool) → ((x : ℕ) (y : Bool) → F.post passes x y → y ≡ test x)
+        → MatchOption result (Pass test from to cells.now) (λ at. Pass test from at cells.now) }
 {
     for i in from..to {
         if !passes(cells[i]) {
-            return i;
+            return Some(i);
         }
     }
-    to
+    None
 }
 
-// The run of the address: the one that is kept, or past its end the next.
-fn run_at(rules: &[u64], used: usize, address: u32, run: Run) -> Run
-    requires { Asking rules.now used address run }
-    ensures { Found rules.now used address result }
+// Goes on to the run of the address: past the end of the one that is kept it is the next.
+fn go_on(rules: &[u64], used: usize, address: u32, run: &mut Run)
+    requires { Asking rules.now used address run.old }
+    ensures { Found rules.now used address run.new }
 {
-    if (address as u64) < run.end {
-        return run;
+    if run.end <= address as u64 {
+        *run = runs::onward::asked(rules, used, address, run.cell, run.until, run.at);
     }
-    runs::onward::asked(rules, used, address, run.cell, run.until, run.at)
 }
 
 // Repaints the cells from..to, of the addresses from `start` on.
@@ -81,25 +75,23 @@ fn unpaint_run(
     rules: &[u64],
     used: usize,
     length: u32,
-    run: Run,
-) -> Tally
+    run: &mut Run,
+) -> u32
     requires within { Within from to cells.old }
     requires in_range { start + (to - from) ≤ 2 ^ 32 }
-    requires asking { Asking rules.now used start run }
-    ensures { RunUnpainted length rules.now used start from to cells.old cells.new
-        result.changed result.run }
+    requires asking { Asking rules.now used start run.old }
+    ensures { RunUnpainted length rules.now used start from to cells.old cells.new result run.new }
 {
     let mut changed = 0;
-    let mut kept = run;
-    let mut i = skip(cells, from, to, |cell| stays(cell, length));
-    while i < to {
+    let mut next = from;
+    while let Some(i) = pass_over(cells, next, to, |cell| stays(cell, length)) {
         let address = start + (i - from) as u32;
-        kept = run_at(rules, used, address, kept);
-        let reach = (to - i).min((kept.end - address as u64) as usize);
-        changed += change_run(cells, i..i + reach, |old| replaced(old, kept.cell, length));
-        i = skip(cells, i + reach, to, |cell| stays(cell, length));
+        go_on(rules, used, address, run);
+        let new = run.cell;
+        next = i + (to - i).min((run.end - address as u64) as usize);
+        changed += change_run(cells, i..next, |old| replaced(old, new, length));
     }
-    Tally { changed, run: kept }
+    changed
 }
 
 // Whether the block of this first cell is passed over: it is no pointer, and stays.
@@ -146,34 +138,27 @@ fn unpaint_some(
     block: usize,
     to: usize,
     length: u32,
-    run: Run,
-) -> (Tally, usize)
+    run: &mut Run,
+) -> (u32, usize)
     requires blocks_ready { BlocksReady territory block to (tables_of first.old long.old owners.now) }
     requires some_blocks { block < to }
-    requires asking { Asking rules.now used (block_start territory block) run }
+    requires asking { Asking rules.now used (block_start territory block) run.old }
     ensures { SomeUnpainted territory length rules.now used block to (tables_of first.old long.old owners.now)
-        first.new long.new result.0.changed result.0.run result.1 }
+        first.new long.new result.0 run.new result.1 }
 {
     let start = block_start(territory, block);
     let cell = first[block];
     if Cell::is_pointer(cell) {
         let cells = place::segment_cells(cell);
-        let tally = unpaint_run(
-            long,
-            cells.start,
-            cells.end,
-            start,
-            rules,
-            used,
-            length,
-            run,
-        );
-        return (tally, block + 1);
+        let end = cells.end;
+        let changed = unpaint_run(long, cells.start, end, start, rules, used, length, run);
+        return (changed, block + 1);
     }
-    let kept = run_at(rules, used, start, run);
-    let stop = piece(first, block, to, kept.end - start as u64);
-    let changed = change_run(first, block..stop, |old| replaced(old, kept.cell, length));
-    (Tally { changed, run: kept }, stop)
+    go_on(rules, used, start, run);
+    let new = run.cell;
+    let stop = piece(first, block, to, run.end - start as u64);
+    let changed = change_run(first, block..stop, |old| replaced(old, new, length));
+    (changed, stop)
 }
 
 // Repaints the blocks from..to.
@@ -187,25 +172,23 @@ fn unpaint_blocks(
     from: usize,
     to: usize,
     length: u32,
-    run: Run,
-) -> Tally
+    run: &mut Run,
+) -> u32
     requires blocks_ready { BlocksReady territory from to (tables_of first.old long.old owners.now) }
-    requires asking { Asking rules.now used (block_start territory from) run }
+    requires asking { Asking rules.now used (block_start territory from) run.old }
     ensures { BlocksUnpainted territory length rules.now used from to (tables_of first.old long.old owners.now)
-        first.new long.new result.changed result.run }
+        first.new long.new result run.new }
 {
     let mut changed = 0;
-    let mut kept = run;
-    let mut block = skip(first, from, to, |cell| passed(cell, length));
-    while block < to {
-        let (tally, stop) = unpaint_some(
-            first, long, owners, rules, used, territory, block, to, length, kept,
+    let mut next = from;
+    while let Some(block) = pass_over(first, next, to, |cell| passed(cell, length)) {
+        let (some, stop) = unpaint_some(
+            first, long, owners, rules, used, territory, block, to, length, run,
         );
-        kept = tally.run;
-        changed += tally.changed;
-        block = skip(first, stop, to, |cell| passed(cell, length));
+        changed += some;
+        next = stop;
     }
-    Tally { changed, run: kept }
+    changed
 }
 
 // Repaints each cell in the prefix, direct or in an open segment, and returns how many cells of both tables differ. The rules are those
@@ -230,16 +213,15 @@ pub fn unpaint(
     let length = prefix.length;
     let block = blocks.from;
     // The loops only go on from this run, so that the search stays a call in them.
-    let run = runs::longest(rules, used, prefix.address);
+    let mut run = runs::longest(rules, used, prefix.address);
     if length <= Block::WIDTH {
         let to = block + blocks.count;
-        let tally = unpaint_blocks(
-            first, long, owners, rules, used, territory, block, to, length, run,
+        return unpaint_blocks(
+            first, long, owners, rules, used, territory, block, to, length, &mut run,
         );
-        return tally.changed;
     }
     let cells = place::prefix_cells(Cell::segment(first[block]), prefix);
-    let tally = unpaint_run(
+    unpaint_run(
         long,
         cells.start,
         cells.end,
@@ -247,7 +229,6 @@ pub fn unpaint(
         rules,
         used,
         length,
-        run,
-    );
-    tally.changed
+        &mut run,
+    )
 }

@@ -30,7 +30,7 @@ owns c =
     c.requires.blocks_ready.owned c.args.block (le_refl _) (omega arith) (leb-true _ _ (sym c.is_pointer.ensures ∙ c.if-is_pointer.true))
 
 -- the run that is kept may be asked from there
-asking : (c : After-block_start-start) → let a = c.args in Asking a.rules.now a.used c.block_start-start.result a.run
+asking : (c : After-block_start-start) → let a = c.args in Asking a.rules.now a.used c.block_start-start.result a.run.now
 asking c =
     let pre = c.requires.asking in record { listed = pre.listed; kept = kept_later (omega (arith, c.block_start-start.ensures)) pre.kept }
 
@@ -40,9 +40,9 @@ block_start-start-requires c = omega (arith, end (goal.at.block_start-start-requ
 pub segment_cells-cells-requires : goal.segment_cells-cells-requires
 segment_cells-cells-requires c = omega (arith, (owns (goal.at.segment_cells-cells-requires c).Then-is_pointer).points)
 
-pub unpaint_run-tally-requires : goal.unpaint_run-tally-requires
-unpaint_run-tally-requires c =
-    let at = goal.at.unpaint_run-tally-requires c in
+pub unpaint_run-changed-requires : goal.unpaint_run-changed-requires
+unpaint_run-changed-requires c =
+    let at = goal.at.unpaint_run-changed-requires c in
     let run = c.segment_cells-cells.ensures in record { within = segment_within c.requires.blocks_ready.sized (owns at.Then-is_pointer) (omega (arith, run.low)) (omega (arith, run.high)) (omega (arith, run.low, run.high)); in_range = omega (arith, run.high, c.block_start-start.ensures, end at.Start); asking = asking at.After-block_start-start }
 
 pub returns-then-is_pointer : goal.returns-then-is_pointer
@@ -51,24 +51,24 @@ returns-then-is_pointer c =
     let a = c.args in
     let cells = c.segment_cells-cells.ensures in
     let run = run_addressed (unpaint_cell a.length (routes a.rules.now)) a.territory (owns at.Then-is_pointer) 0 (omega (arith, cells.low))
-    (omega (arith, cells.low, cells.high)) (omega (arith, c.block_start-start.ensures)) c.unpaint_run-tally.ensures.changed in
+    (omega (arith, cells.low, cells.high)) (omega (arith, c.block_start-start.ensures)) c.unpaint_run-changed.ensures.changed in
     record {
       some = omega arith;
       within = omega (arith, c.requires.some_blocks);
       done = record {
         blocks = block_points _ _ (owns at.Then-is_pointer) (omega (arith, cells.low)) (omega (arith, cells.high)) run;
-        kept = kept_later (omega (arith, cells.high, c.block_start-start.ensures)) c.unpaint_run-tally.ensures.kept;
+        kept = kept_later (omega (arith, cells.high, c.block_start-start.ensures)) c.unpaint_run-changed.ensures.kept;
       };
     }
 
-pub run_at-kept-requires : goal.run_at-kept-requires
-run_at-kept-requires c = asking (goal.at.run_at-kept-requires c).After-block_start-start
+pub go_on-requires : goal.go_on-requires
+go_on-requires c = asking (goal.at.go_on-requires c).After-block_start-start
 
 pub piece-stop-requires : goal.piece-stop-requires
 piece-stop-requires c =
     let direct : let a = c.args in get_or a.first.now a.block 0 < pointer_bit =
     leb-false _ _ (sym c.is_pointer.ensures ∙ c.if-is_pointer.false) in
-    record { inside = record { ordered = omega arith; inside = c.requires.blocks_ready.within }; some_blocks = (omega arith, omega (arith, c.run_at-kept.ensures.past)); closed = closed_one c.args.block c.args.first.now direct }
+    record { inside = record { ordered = omega arith; inside = c.requires.blocks_ready.within }; some_blocks = (omega arith, omega (arith, c.go_on.ensures.past)); closed = closed_one c.args.block c.args.first.now direct }
 
 pub change_run-changed-requires-clause-within : goal.change_run-changed-requires-clause-within
 change_run-changed-requires-clause-within c =
@@ -79,7 +79,7 @@ pub returns : goal.returns
 returns c =
     let a = c.args in
     let start = c.block_start-start.ensures in
-    let found = c.run_at-kept.ensures in
+    let found = c.go_on.ensures in
     let piece = c.piece-stop.ensures in
     record {
       some = piece.some;
@@ -87,7 +87,7 @@ returns c =
       done = record {
         blocks = blocks_closed piece.closed
             (run_taken a.length (block_start a.territory) found.kept (λ k low high. (omega (arith, start), omega (arith, start, piece.fit)))
-            (c.change_run-changed.ensures.changed (replaced a.length c.run_at-kept.result.cell) (λ x y h. search rules)) (omega arith));
+            (c.change_run-changed.ensures.changed (replaced a.length c.go_on.new.run.cell) (λ x y h. search rules)) (omega arith));
         kept = kept_later (omega (arith, start, piece.some)) found.kept;
       };
     }

@@ -39,11 +39,9 @@ pub record Inside (from to : ℕ) (cells : List ℕ) : Type 0 where
   pub ordered : from ≤ to
   pub inside : to ≤ length cells
 
--- at is in from..to, and the cells before it pass the test
-pub record Skipped (test : ℕ → Bool) (from to : ℕ) (cells : List ℕ) (at : ℕ) : Type 0 where
-  pub low : from ≤ at
-  pub high : at ≤ to
-  pub pass : (k : ℕ) → from ≤ k → k < at → test (get_or cells k 0) ≡ true
+-- the cells from..to pass the test
+abbrev pub Pass : (ℕ → Bool) → ℕ → ℕ → List ℕ → Type 0
+Pass test from to cells = (k : ℕ) → from ≤ k → k < to → test (get_or cells k 0) ≡ true
 
 -- a first cell is passed over: it is no pointer, and stays
 unfoldable pub passed : ℕ → ℕ → Bool
