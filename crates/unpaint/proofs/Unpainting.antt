@@ -90,17 +90,18 @@ pub start : {g : ℕ → ℕ → ℕ} {from to : ℕ} {cells : List ℕ} → fro
 start {from = from} h = record { low = le_refl from; high = h; done = run_none; few = omega arith }
 
 -- it goes on by a part of them, and over some that stay
-module _ {g : ℕ → ℕ → ℕ} {from to changed i stop : ℕ} {cells₀ cells : List ℕ} (inv : Reached g from to cells₀ cells changed i)
-    (low : i ≤ stop) (high : stop ≤ to) where
-  pub part : {d : ℕ} {after : List ℕ} → RunChanged g i stop cells after d → d + i ≤ stop → Reached g from to cells₀ after (changed + d) stop
-  part c few = record { low = omega (arith, inv.low); high = high; done = run_then inv.done inv.low low c; few = omega (arith, inv.few) }
+module _ {g : ℕ → ℕ → ℕ} {from to changed i : ℕ} {cells₀ cells : List ℕ} (inv : Reached g from to cells₀ cells changed i) where
+  pub part : {end next d : ℕ} {after : List ℕ} → RunChanged g i end cells after d → d + i ≤ end → next ≡ end → next ≤ to
+      → Reached g from to cells₀ after (changed + d) next
+  part {end} {next} {d} {after} c few e high = record {
+    low = omega (arith, inv.low);
+    high = high;
+    done = rw e (run_then inv.done inv.low (omega arith) c);
+    few = omega (arith, inv.few);
+  }
 
-  pub part_none : RunChanged g i stop cells cells 0 → Reached g from to cells₀ cells changed stop
-  part_none c = subst (λ (n : ℕ). Reached g from to cells₀ cells n stop) (add-zero changed) (part c (omega arith))
-
-pub finish : {g : ℕ → ℕ → ℕ} {from to : ℕ} {cells₀ cells : List ℕ} {changed i : ℕ} → to ≤ i → Reached g from to cells₀ cells changed i
-    → RunChanged g from to cells₀ cells changed
-finish past inv = let done = le_antisymm inv.high past in rw done at inv.done
+  pub part_none : {next : ℕ} → RunChanged g i next cells cells 0 → i ≤ next → next ≤ to → Reached g from to cells₀ cells changed next
+  part_none {next} c low high = subst (λ (n : ℕ). Reached g from to cells₀ cells n next) (add-zero changed) (part c (omega arith) refl high)
 
 -- ---- a run of blocks
 

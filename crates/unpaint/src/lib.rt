@@ -20,6 +20,7 @@ use cells::cell::Cell;
 use prefix::Prefix;
 use prefix::geometry::{Block, Blocks, block_start};
 use runs::Run;
+use std::ops::Range;
 use tables::change::change_run;
 use tables::place;
 
@@ -66,30 +67,29 @@ fn go_on(rules: &[u64], used: usize, address: u32, run: &mut Run)
     }
 }
 
-// Repaints the cells from..to, of the addresses from `start` on.
+// Repaints a part of the cells, those of the addresses from `start` on.
 fn unpaint_run(
     cells: &mut [u32],
-    from: usize,
-    to: usize,
+    part: Range<usize>,
     start: u32,
     rules: &[u64],
     used: usize,
     length: u32,
     run: &mut Run,
 ) -> u32
-    requires within { Within from to cells.old }
-    requires in_range { start + (to - from) ≤ 2 ^ 32 }
+    requires within { Within part.start part.end cells.old }
+    requires in_range { start + (part.end - part.start) ≤ 2 ^ 32 }
     requires asking { Asking rules.now used start run.old }
-    ensures { RunUnpainted length rules.now used start from to cells.old cells.new result run.new }
+    ensures { RunUnpainted length rules.now used start part.start part.end cells.old cells.new result run.new }
 {
     let mut changed = 0;
-    let mut next = from;
-    while let Some(i) = pass_over(cells, next, to, |cell| stays(cell, length)) {
-        let address = start + (i - from) as u32;
+    let mut next = part.start;
+    while let Some(i) = pass_over(cells, next, part.end, |cell| stays(cell, length)) {
+        let address = start + (i - part.start) as u32;
         go_on(rules, used, address, run);
-        let new = run.cell;
-        next = i + (to - i).min((run.end - address as u64) as usize);
-        changed += change_run(cells, i..next, |old| replaced(old, new, length));
+        let end = i + (part.end - i).min((run.end - address as u64) as usize);
+        changed += change_run(cells, i..end, |old| replaced(old, run.cell, length));
+        next = end;
     }
     changed
 }
@@ -149,15 +149,13 @@ fn unpaint_some(
     let start = block_start(territory, block);
     let cell = first[block];
     if Cell::is_pointer(cell) {
-        let cells = place::segment_cells(cell);
-        let end = cells.end;
-        let changed = unpaint_run(long, cells.start, end, start, rules, used, length, run);
+        let part = place::segment_cells(cell);
+        let changed = unpaint_run(long, part, start, rules, used, length, run);
         return (changed, block + 1);
     }
     go_on(rules, used, start, run);
-    let new = run.cell;
     let stop = piece(first, block, to, run.end - start as u64);
-    let changed = change_run(first, block..stop, |old| replaced(old, new, length));
+    let changed = change_run(first, block..stop, |old| replaced(old, run.cell, length));
     (changed, stop)
 }
 
@@ -220,15 +218,6 @@ pub fn unpaint(
             first, long, owners, rules, used, territory, block, to, length, &mut run,
         );
     }
-    let cells = place::prefix_cells(Cell::segment(first[block]), prefix);
-    unpaint_run(
-        long,
-        cells.start,
-        cells.end,
-        prefix.address,
-        rules,
-        used,
-        length,
-        &mut run,
-    )
+    let part = place::prefix_cells(Cell::segment(first[block]), prefix);
+    unpaint_run(long, part, prefix.address, rules, used, length, &mut run)
 }

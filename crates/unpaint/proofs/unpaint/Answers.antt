@@ -59,9 +59,9 @@ segment-requires c =
     let at = goal.at.segment-requires c in
     omega (arith, points (open_block at.Else-length-le-WIDTH) (from at.Start))
 
-pub prefix_cells-cells-requires : goal.prefix_cells-cells-requires
-prefix_cells-cells-requires c =
-    let at = goal.at.prefix_cells-cells-requires c in
+pub prefix_cells-part-requires : goal.prefix_cells-part-requires
+prefix_cells-part-requires c =
+    let at = goal.at.prefix_cells-part-requires c in
     let o = open_block at.Else-length-le-WIDTH in
     let lent = (owns o (from at.Start)).lent in
     record { segment_fits = omega (arith, c.segment.ensures, o.ready.sized.few); is_long = (omega (arith, c.if-length-le-WIDTH.false), o.ready.formed.short) }
@@ -69,13 +69,13 @@ prefix_cells-cells-requires c =
 pub unpaint_run-requires : goal.unpaint_run-requires
 unpaint_run-requires c =
     let at = goal.at.unpaint_run-requires c in
-    let run = c.prefix_cells-cells.ensures in
+    let run = c.prefix_cells-part.ensures in
     let small = ends_within c.requires.repaintable.ready.formed (omega arith) in record { within = run_within (open_block at.Else-length-le-WIDTH) (from at.Start) c.segment.ensures run; in_range = omega (arith, run.high, small); asking = record { listed = c.requires.listed; kept = c.longest-run.ensures.kept } }
 
 pub returns : goal.returns
 returns c =
     let at = goal.at.returns c in
-    let run = c.prefix_cells-cells.ensures in
+    let run = c.prefix_cells-part.ensures in
     let f = unpaint_cell c.args.prefix.length (routes c.args.rules.now) in
     let o = open_block at.Else-length-le-WIDTH in
     run_repainted o (from at.Start) c.segment.ensures run f (run_counted o (from at.Start) c.segment.ensures run f c.unpaint_run.ensures.changed)

@@ -18,13 +18,12 @@ loop-i-preserved c =
     let i = c.in-Some.ensures in
     let taken = c.change_run-changed.ensures in
     let passed = i.passed (stays c.args.length) (λ x y h. search rules) in
-    let address : ℕ → ℕ = λ k. c.args.start + (k - c.args.from) in (
+    let address : ℕ → ℕ = λ k. c.args.start + (k - c.args.part.start) in (
       part
-          (part_none inv.0 (omega (arith, i.found)) (omega (arith, i.found)) (passed_run c.args.length passed (routes c.args.rules.now) address))
-          (omega arith) (omega (arith, i.found))
+          (part_none inv.0 (passed_run c.args.length passed (routes c.args.rules.now) address) (omega (arith, i.found)) (omega (arith, i.found)))
           (run_taken c.args.length address c.go_on.ensures.kept (λ k low high. (omega (arith, inv.0.low, i.found), omega (arith, inv.0.low, i.found)))
           (taken.changed (replaced c.args.length c.go_on.new.run.cell) (λ x y h. search rules)) (omega arith))
-          taken.few,
+          taken.few (omega arith) (omega (arith, i.found)),
       kept_later (omega (arith, inv.0.low, i.found)) c.go_on.ensures.kept,
     )
 
@@ -32,8 +31,8 @@ pub returns : goal.returns
 returns c =
     let inv = c.loop-i.invariant in
     let passed = c.in_default.ensures.passed (stays c.args.length) (λ x y h. search rules) in
-    let address : ℕ → ℕ = λ k. c.args.start + (k - c.args.from) in
+    let address : ℕ → ℕ = λ k. c.args.start + (k - c.args.part.start) in
     record {
-      changed = (part_none inv.0 inv.0.high (le_refl _) (passed_run c.args.length passed (routes c.args.rules.now) address)).done;
+      changed = (part_none inv.0 (passed_run c.args.length passed (routes c.args.rules.now) address) inv.0.high (le_refl _)).done;
       kept = kept_later (omega (arith, inv.0.high)) inv.1;
     }

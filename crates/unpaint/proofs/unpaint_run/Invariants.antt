@@ -9,8 +9,8 @@ use Rattle.unpaint.proofs.unpaint_run.Given as goal
 
 abbrev pub invariant-loop-i : goal.invariant-loop-i
 invariant-loop-i l =
-    Reached (λ k. unpaint_cell l.length (routes l.rules) (l.start + (k - l.from))) l.from l.to l.initial.cells l.cells l.changed l.next
-    × Kept l.rules l.used (l.start + (l.next - l.from)) l.run
+    Reached (λ k. unpaint_cell l.length (routes l.rules) (l.start + (k - l.part.start))) l.part.start l.part.end l.initial.cells l.cells l.changed l.next
+    × Kept l.rules l.used (l.start + (l.next - l.part.start)) l.run
 
 abbrev pub decreases-loop-i : goal.decreases-loop-i
-decreases-loop-i l = l.to - l.next
+decreases-loop-i l = l.part.end - l.next

@@ -37,19 +37,19 @@ asking c =
 pub block_start-start-requires : goal.block_start-start-requires
 block_start-start-requires c = omega (arith, end (goal.at.block_start-start-requires c).Start)
 
-pub segment_cells-cells-requires : goal.segment_cells-cells-requires
-segment_cells-cells-requires c = omega (arith, (owns (goal.at.segment_cells-cells-requires c).Then-is_pointer).points)
+pub segment_cells-part-requires : goal.segment_cells-part-requires
+segment_cells-part-requires c = omega (arith, (owns (goal.at.segment_cells-part-requires c).Then-is_pointer).points)
 
 pub unpaint_run-changed-requires : goal.unpaint_run-changed-requires
 unpaint_run-changed-requires c =
     let at = goal.at.unpaint_run-changed-requires c in
-    let run = c.segment_cells-cells.ensures in record { within = segment_within c.requires.blocks_ready.sized (owns at.Then-is_pointer) (omega (arith, run.low)) (omega (arith, run.high)) (omega (arith, run.low, run.high)); in_range = omega (arith, run.high, c.block_start-start.ensures, end at.Start); asking = asking at.After-block_start-start }
+    let run = c.segment_cells-part.ensures in record { within = segment_within c.requires.blocks_ready.sized (owns at.Then-is_pointer) (omega (arith, run.low)) (omega (arith, run.high)) (omega (arith, run.low, run.high)); in_range = omega (arith, run.high, c.block_start-start.ensures, end at.Start); asking = asking at.After-block_start-start }
 
 pub returns-then-is_pointer : goal.returns-then-is_pointer
 returns-then-is_pointer c =
     let at = goal.at.returns-then-is_pointer c in
     let a = c.args in
-    let cells = c.segment_cells-cells.ensures in
+    let cells = c.segment_cells-part.ensures in
     let run = run_addressed (unpaint_cell a.length (routes a.rules.now)) a.territory (owns at.Then-is_pointer) 0 (omega (arith, cells.low))
     (omega (arith, cells.low, cells.high)) (omega (arith, c.block_start-start.ensures)) c.unpaint_run-changed.ensures.changed in
     record {
