@@ -7,6 +7,7 @@ use native.Mathlib.Nat.{le_refl, le_trans, lt_of_le_of_lt, lt_of_lt_of_le}
 use native.Mathlib.Omega.{arith}
 use lib.ListN.{get_or}
 use Rattle.ground.proofs.Cases.{by_lt}
+use Rattle.prefix.specs.declared.Prefix.{Prefix}
 use Rattle.prefix.specs.Prefixes.{span, Contains}
 use Rattle.prefix.specs.Routes.{Route, best, IsLongest, found}
 use Rattle.prefix.proofs.Prefixes.{in_range_lem, by_range}
@@ -91,11 +92,17 @@ module _ {ws : List ℕ} {n a from : ℕ} where
   skip_start s = record { counted = s; ended = λ k low high. absurd (omega arith) }
 
 module _ {ws : List ℕ} {n a from i : ℕ} (s : Listed ws n) (on : Skipping ws n a from i) where
-  pub skip_more : i < n → (prefix_at ws i).address ≤ a → ¬ Contains (prefix_at ws i) a → Skipping ws n a from (i + 1)
-  skip_more h start apart =
+  pub skip_more : {p : Prefix} → i < n → p ≡ prefix_at ws i → p.address ≤ a → ¬ Contains p a → Skipping ws n a from (i + 1)
+  skip_more h own start apart =
       record {
-        counted = record { within = omega arith; started = λ k l. by_last (λ j. (prefix_at ws j).address ≤ a) on.counted.started start k l };
-        ended = λ k low l. by_last (λ j. from ≤ j → ¬ Contains (prefix_at ws j) a) (λ j m d. on.ended j d m) (λ d. apart) k l low;
+        counted = record {
+          within = omega arith;
+          started = λ k l.
+              by_last (λ j. (prefix_at ws j).address ≤ a) on.counted.started (subst (λ (q : Prefix). q.address ≤ a) own start) k l;
+        };
+        ended = λ k low l.
+            by_last (λ j. from ≤ j → ¬ Contains (prefix_at ws j) a) (λ j m d. on.ended j d m)
+            (λ d. subst (λ (q : Prefix). ¬ Contains q a) own apart) k l low;
       }
     where
       by_last : (P : ℕ → Type 0) → ((j : ℕ) → j < i → P j) → P i → (k : ℕ) → k < i + 1 → P k
@@ -122,8 +129,10 @@ module _ {ws : List ℕ} {n a from i : ℕ} (s : Listed ws n) (on : Skipping ws 
           by_lt (key_of (around 32 a)) (key_of (prefix_at ws k))
           (λ lt. let less = (key_less (around 32 a) (prefix_at ws k) (le_refl 32) f).0 lt in absurd (omega arith)) (λ le. le)
 
-  pub skip_later : i < n → a < (prefix_at ws i).address → SkippedIs ws n a from i
-  skip_later h start = skip_to (λ k l m. omega (arith, listed_short s i h, listed_short s k m, keys_rise s i k l m))
+  pub skip_later : {p : Prefix} → i < n → p ≡ prefix_at ws i → a < p.address → SkippedIs ws n a from i
+  skip_later h own start =
+      let past : a < (prefix_at ws i).address = subst (λ (q : Prefix). a < q.address) own start in
+      skip_to (λ k l m. omega (arith, listed_short s i h, listed_short s k m, keys_rise s i k l m))
 
   pub skip_done : n ≤ i → SkippedIs ws n a from n
   skip_done h =

@@ -8,17 +8,17 @@ ghost use Rattle.prefix.specs.Geometry.{block_size, block_start, touched};
 ghost use Rattle.cells.specs.Cells.{pointer_bit};
 ghost use Rattle.cells.specs.Memory.{tables_of};
 ghost use Rattle.rules.specs.Rules.{routes};
-ghost use Rattle.rules.specs.inner.Places.{Listed};
 ghost use Rattle.tables.specs.Cellwise.{unpaint_cell, repainted};
 ghost use Rattle.tables.specs.Changes.{left, leaves};
 ghost use Rattle.tables.specs.inner.Ready.{Repaintable};
 ghost use Rattle.tables.specs.inner.Ranges.{Within, BlocksReady};
-ghost use Rattle.unpaint.specs.inner.Unpaint.{Asking, Found, stays, passed, replaced, Inside, Pass, Closed, PieceIs};
+ghost use Rattle.unpaint.specs.inner.Unpaint.{KeptAt, Found, stays, passed, replaced, Inside, Pass, Closed, PieceIs};
 ghost use Rattle.unpaint.specs.inner.Unpaint.{RunUnpainted, BlocksUnpainted, SomeUnpainted};
 
 use cells::cell::Cell;
 use prefix::Prefix;
 use prefix::geometry::{Block, Blocks, block_start};
+use rules::live::Live;
 use runs::Run;
 use std::ops::Range;
 use tables::change::change_run;
@@ -58,12 +58,12 @@ fn pass_over<F: Fn(u32) -> bool>(cells: &[u32], from: usize, to: usize, passes: 
 }
 
 // Goes on to the run of the address: past the end of the one that is kept it is the next.
-fn go_on(rules: &[u64], used: usize, address: u32, run: &mut Run)
-    requires { Asking rules.now used address run.old }
-    ensures { Found rules.now used address run.new }
+fn go_on(live: Live, address: u32, run: &mut Run)
+    requires { KeptAt live.words.now address run.old }
+    ensures { Found live.entry.words.now address run.new }
 {
     if run.end <= address as u64 {
-        *run = runs::onward::asked(rules, used, address, run.cell, run.until, run.at);
+        *run = run.asked(live, address);
     }
 }
 
@@ -72,21 +72,20 @@ fn unpaint_run(
     cells: &mut [u32],
     part: Range<usize>,
     start: u32,
-    rules: &[u64],
-    used: usize,
+    live: Live,
     length: u32,
     run: &mut Run,
 ) -> u32
     requires within { Within part.start part.end cells.old }
     requires in_range { start + (part.end - part.start) ≤ 2 ^ 32 }
-    requires asking { Asking rules.now used start run.old }
-    ensures { RunUnpainted length rules.now used start part.start part.end cells.old cells.new result run.new }
+    requires kept { KeptAt live.words.now start run.old }
+    ensures { RunUnpainted length live.entry.words.now start part.start part.end cells.old cells.new result run.new }
 {
     let mut changed = 0;
     let mut next = part.start;
     while let Some(i) = pass_over(cells, next, part.end, |cell| stays(cell, length)) {
         let address = start + (i - part.start) as u32;
-        go_on(rules, used, address, run);
+        go_on(live, address, run);
         let end = i + (part.end - i).min((run.end - address as u64) as usize);
         changed += change_run(cells, i..end, |old| replaced(old, run.cell, length));
         next = end;
@@ -132,8 +131,7 @@ fn unpaint_some(
     first: &mut [u32],
     long: &mut [u32],
     owners: &[u32],
-    rules: &[u64],
-    used: usize,
+    live: Live,
     territory: Prefix,
     block: usize,
     to: usize,
@@ -142,18 +140,18 @@ fn unpaint_some(
 ) -> (u32, usize)
     requires blocks_ready { BlocksReady territory block to (tables_of first.old long.old owners.now) }
     requires some_blocks { block < to }
-    requires asking { Asking rules.now used (block_start territory block) run.old }
-    ensures { SomeUnpainted territory length rules.now used block to (tables_of first.old long.old owners.now)
+    requires kept { KeptAt live.words.now (block_start territory block) run.old }
+    ensures { SomeUnpainted territory length live.entry.words.now block to (tables_of first.old long.old owners.now)
         first.new long.new result.0 run.new result.1 }
 {
     let start = block_start(territory, block);
     let cell = first[block];
     if Cell::is_pointer(cell) {
         let part = place::segment_cells(cell);
-        let changed = unpaint_run(long, part, start, rules, used, length, run);
+        let changed = unpaint_run(long, part, start, live, length, run);
         return (changed, block + 1);
     }
-    go_on(rules, used, start, run);
+    go_on(live, start, run);
     let stop = piece(first, block, to, run.end - start as u64);
     let changed = change_run(first, block..stop, |old| replaced(old, run.cell, length));
     (changed, stop)
@@ -164,8 +162,7 @@ fn unpaint_blocks(
     first: &mut [u32],
     long: &mut [u32],
     owners: &[u32],
-    rules: &[u64],
-    used: usize,
+    live: Live,
     territory: Prefix,
     from: usize,
     to: usize,
@@ -173,15 +170,15 @@ fn unpaint_blocks(
     run: &mut Run,
 ) -> u32
     requires blocks_ready { BlocksReady territory from to (tables_of first.old long.old owners.now) }
-    requires asking { Asking rules.now used (block_start territory from) run.old }
-    ensures { BlocksUnpainted territory length rules.now used from to (tables_of first.old long.old owners.now)
+    requires kept { KeptAt live.words.now (block_start territory from) run.old }
+    ensures { BlocksUnpainted territory length live.entry.words.now from to (tables_of first.old long.old owners.now)
         first.new long.new result run.new }
 {
     let mut changed = 0;
     let mut next = from;
     while let Some(block) = pass_over(first, next, to, |cell| passed(cell, length)) {
         let (some, stop) = unpaint_some(
-            first, long, owners, rules, used, territory, block, to, length, run,
+            first, long, owners, live, territory, block, to, length, run,
         );
         changed += some;
         next = stop;
@@ -195,29 +192,27 @@ pub fn unpaint(
     first: &mut [u32],
     long: &mut [u32],
     owners: &[u32],
-    rules: &[u64],
-    used: usize,
+    live: Live,
     territory: Prefix,
     prefix: Prefix,
     blocks: Blocks,
 ) -> u32
     requires repaintable { Repaintable territory prefix (tables_of first.old long.old owners.now) }
     requires touched_blocks { blocks ≡ touched territory prefix }
-    requires listed { Listed rules.now used }
     ensures { left result (tables_of first.new long.new owners.now)
-        ≡ leaves (repainted territory prefix (unpaint_cell prefix.length (routes rules.now)))
+        ≡ leaves (repainted territory prefix (unpaint_cell prefix.length (routes live.entry.words.now)))
         (tables_of first.old long.old owners.now) }
 {
     let length = prefix.length;
     let block = blocks.from;
     // The loops only go on from this run, so that the search stays a call in them.
-    let mut run = runs::longest(rules, used, prefix.address);
+    let mut run = runs::longest(live, prefix.address);
     if length <= Block::WIDTH {
         let to = block + blocks.count;
         return unpaint_blocks(
-            first, long, owners, rules, used, territory, block, to, length, &mut run,
+            first, long, owners, live, territory, block, to, length, &mut run,
         );
     }
     let part = place::prefix_cells(Cell::segment(first[block]), prefix);
-    unpaint_run(long, part, prefix.address, rules, used, length, &mut run)
+    unpaint_run(long, part, prefix.address, live, length, &mut run)
 }

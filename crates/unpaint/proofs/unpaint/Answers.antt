@@ -41,7 +41,7 @@ unpaint_blocks-requires c =
     let at = goal.at.unpaint_blocks-requires c in
     let pre = c.requires.repaintable.ready in
     let start = starts pre.sized.territory pre.formed pre.inside c.if-length-le-WIDTH.true in
-    record { blocks_ready = ready at.Then-length-le-WIDTH; asking = record { listed = c.requires.listed; kept = kept_later (omega (arith, from at.Start)) c.longest-run.ensures.kept } }
+    record { blocks_ready = ready at.Then-length-le-WIDTH; kept = kept_later (omega (arith, from at.Start)) c.longest-run.ensures.kept }
 
 pub returns-then-length-le-WIDTH : goal.returns-then-length-le-WIDTH
 returns-then-length-le-WIDTH c =
@@ -70,12 +70,12 @@ pub unpaint_run-requires : goal.unpaint_run-requires
 unpaint_run-requires c =
     let at = goal.at.unpaint_run-requires c in
     let run = c.prefix_cells-part.ensures in
-    let small = ends_within c.requires.repaintable.ready.formed (omega arith) in record { within = run_within (open_block at.Else-length-le-WIDTH) (from at.Start) c.segment.ensures run; in_range = omega (arith, run.high, small); asking = record { listed = c.requires.listed; kept = c.longest-run.ensures.kept } }
+    let small = ends_within c.requires.repaintable.ready.formed (omega arith) in record { within = run_within (open_block at.Else-length-le-WIDTH) (from at.Start) c.segment.ensures run; in_range = omega (arith, run.high, small); kept = c.longest-run.ensures.kept }
 
 pub returns : goal.returns
 returns c =
     let at = goal.at.returns c in
     let run = c.prefix_cells-part.ensures in
-    let f = unpaint_cell c.args.prefix.length (routes c.args.rules.now) in
+    let f = unpaint_cell c.args.prefix.length (routes c.args.live.words.now) in
     let o = open_block at.Else-length-le-WIDTH in
     run_repainted o (from at.Start) c.segment.ensures run f (run_counted o (from at.Start) c.segment.ensures run f c.unpaint_run.ensures.changed)

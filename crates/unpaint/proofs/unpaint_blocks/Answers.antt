@@ -16,25 +16,25 @@ use Rattle.unpaint.proofs.unpaint_blocks.Goals as goal
 
 -- one turn repaints the blocks that it passes over, which stay, and some after them
 turned : (c : After-unpaint_some-some) → let a = c.args in let some = c.unpaint_some-some in
-    BlocksChanged a.territory (unpaint_cell a.length (routes a.rules.now)) a.from some.result.1 (tables_of a.first.now a.long.now a.owners.now)
+    BlocksChanged a.territory (unpaint_cell a.length (routes a.live.words.now)) a.from some.result.1 (tables_of a.first.now a.long.now a.owners.now)
     some.new.first some.new.long (c.loop-block.changed + some.result.0)
 turned c =
     let inv = c.loop-block.invariant in
     let found = c.in-Some.ensures.found in
     let some = c.unpaint_some-some.ensures in
     let passed = c.in-Some.ensures.passed (passed c.args.length) (λ x y h. search rules) in
-    let over = blocks_passed c.args.length (routes c.args.rules.now) inv.2.blocks inv.0 found.0 passed in
+    let over = blocks_passed c.args.length (routes c.args.live.words.now) inv.2.blocks inv.0 found.0 passed in
     blocks_then over (omega (arith, inv.0, found)) (omega (arith, some.some)) some.done.blocks
 
 pub loop-block-init : goal.loop-block-init
-loop-block-init c = (le_refl _, c.requires.blocks_ready.ordered, record { blocks = blocks_none _ _ _ _; kept = c.requires.asking.kept })
+loop-block-init c = (le_refl _, c.requires.blocks_ready.ordered, record { blocks = blocks_none _ _ _ _; kept = c.requires.kept })
 
 pub unpaint_some-some-requires-clause-blocks_ready : goal.unpaint_some-some-requires-clause-blocks_ready
 unpaint_some-some-requires-clause-blocks_ready c =
     let inv = c.loop-block.invariant in
     let found = c.in-Some.ensures.found in
     let passed = c.in-Some.ensures.passed (passed c.args.length) (λ x y h. search rules) in
-    let over = blocks_passed c.args.length (routes c.args.rules.now) inv.2.blocks inv.0 found.0 passed in
+    let over = blocks_passed c.args.length (routes c.args.live.words.now) inv.2.blocks inv.0 found.0 passed in
     ready_then over (omega (arith, inv.0, found)) (omega (arith, found)) (le_refl _) c.requires.blocks_ready
 
 pub overflow_add-changed : goal.overflow_add-changed
@@ -52,7 +52,7 @@ pub returns : goal.returns
 returns c =
     let inv = c.loop-block.invariant in
     record {
-      blocks = blocks_passed c.args.length (routes c.args.rules.now) inv.2.blocks inv.0 inv.1
+      blocks = blocks_passed c.args.length (routes c.args.live.words.now) inv.2.blocks inv.0 inv.1
           (c.in_default.ensures.passed (passed c.args.length) (λ x y h. search rules));
       kept = kept_later (omega (arith, inv.1)) inv.2.kept;
     }

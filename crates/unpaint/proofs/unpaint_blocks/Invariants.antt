@@ -8,7 +8,7 @@ use Rattle.unpaint.proofs.unpaint_blocks.Given as goal
 abbrev pub invariant-loop-block : goal.invariant-loop-block
 invariant-loop-block l =
     (l.from ≤ l.next) × (l.next ≤ l.to)
-    × BlocksUnpainted l.territory l.length l.rules l.used l.from l.next (tables_of l.initial.first l.initial.long l.owners) l.first l.long l.changed l.run
+    × BlocksUnpainted l.territory l.length l.live.words.now l.from l.next (tables_of l.initial.first l.initial.long l.owners) l.first l.long l.changed l.run
 
 abbrev pub decreases-loop-block : goal.decreases-loop-block
 decreases-loop-block l = l.to - l.next

@@ -10,7 +10,7 @@ use Rattle.unpaint.proofs.Unpainting.{passed_run, run_taken, start, part, part_n
 use Rattle.unpaint.proofs.unpaint_run.Goals as goal
 
 pub loop-i-init : goal.loop-i-init
-loop-i-init c = (start c.requires.within.ordered, kept_later (omega arith) c.requires.asking.kept)
+loop-i-init c = (start c.requires.within.ordered, kept_later (omega arith) c.requires.kept)
 
 pub loop-i-preserved : goal.loop-i-preserved
 loop-i-preserved c =
@@ -20,7 +20,7 @@ loop-i-preserved c =
     let passed = i.passed (stays c.args.length) (λ x y h. search rules) in
     let address : ℕ → ℕ = λ k. c.args.start + (k - c.args.part.start) in (
       part
-          (part_none inv.0 (passed_run c.args.length passed (routes c.args.rules.now) address) (omega (arith, i.found)) (omega (arith, i.found)))
+          (part_none inv.0 (passed_run c.args.length passed (routes c.args.live.words.now) address) (omega (arith, i.found)) (omega (arith, i.found)))
           (run_taken c.args.length address c.go_on.ensures.kept (λ k low high. (omega (arith, inv.0.low, i.found), omega (arith, inv.0.low, i.found)))
           (taken.changed (replaced c.args.length c.go_on.new.run.cell) (λ x y h. search rules)) (omega arith))
           taken.few (omega arith) (omega (arith, i.found)),
@@ -33,6 +33,6 @@ returns c =
     let passed = c.in_default.ensures.passed (stays c.args.length) (λ x y h. search rules) in
     let address : ℕ → ℕ = λ k. c.args.start + (k - c.args.part.start) in
     record {
-      changed = (part_none inv.0 (passed_run c.args.length passed (routes c.args.rules.now) address) inv.0.high (le_refl _)).done;
+      changed = (part_none inv.0 (passed_run c.args.length passed (routes c.args.live.words.now) address) inv.0.high (le_refl _)).done;
       kept = kept_later (omega (arith, inv.0.high)) inv.1;
     }

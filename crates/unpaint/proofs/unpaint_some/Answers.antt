@@ -14,7 +14,7 @@ use Rattle.rules.specs.Rules.{routes}
 use Rattle.runs.proofs.Covered.{kept_later}
 use Rattle.tables.specs.Cellwise.{unpaint_cell}
 use Rattle.tables.specs.inner.Ready.{segment_at, Owns}
-use Rattle.unpaint.specs.inner.Unpaint.{Asking, replaced}
+use Rattle.unpaint.specs.inner.Unpaint.{KeptAt, replaced}
 use Rattle.tables.proofs.Blocks.{block_points, segment_within, run_addressed, block_ends}
 use Rattle.unpaint.proofs.Unpainting.{run_taken, blocks_closed, closed_one}
 use Rattle.unpaint.proofs.unpaint_some.Goals.{After-block_start-start, Start, Then-is_pointer}
@@ -30,9 +30,9 @@ owns c =
     c.requires.blocks_ready.owned c.args.block (le_refl _) (omega arith) (leb-true _ _ (sym c.is_pointer.ensures ∙ c.if-is_pointer.true))
 
 -- the run that is kept may be asked from there
-asking : (c : After-block_start-start) → let a = c.args in Asking a.rules.now a.used c.block_start-start.result a.run.now
+asking : (c : After-block_start-start) → let a = c.args in KeptAt a.live.words.now c.block_start-start.result a.run.now
 asking c =
-    let pre = c.requires.asking in record { listed = pre.listed; kept = kept_later (omega (arith, c.block_start-start.ensures)) pre.kept }
+    kept_later (omega (arith, c.block_start-start.ensures)) c.requires.kept
 
 pub block_start-start-requires : goal.block_start-start-requires
 block_start-start-requires c = omega (arith, end (goal.at.block_start-start-requires c).Start)
@@ -43,14 +43,14 @@ segment_cells-part-requires c = omega (arith, (owns (goal.at.segment_cells-part-
 pub unpaint_run-changed-requires : goal.unpaint_run-changed-requires
 unpaint_run-changed-requires c =
     let at = goal.at.unpaint_run-changed-requires c in
-    let run = c.segment_cells-part.ensures in record { within = segment_within c.requires.blocks_ready.sized (owns at.Then-is_pointer) (omega (arith, run.low)) (omega (arith, run.high)) (omega (arith, run.low, run.high)); in_range = omega (arith, run.high, c.block_start-start.ensures, end at.Start); asking = asking at.After-block_start-start }
+    let run = c.segment_cells-part.ensures in record { within = segment_within c.requires.blocks_ready.sized (owns at.Then-is_pointer) (omega (arith, run.low)) (omega (arith, run.high)) (omega (arith, run.low, run.high)); in_range = omega (arith, run.high, c.block_start-start.ensures, end at.Start); kept = asking at.After-block_start-start }
 
 pub returns-then-is_pointer : goal.returns-then-is_pointer
 returns-then-is_pointer c =
     let at = goal.at.returns-then-is_pointer c in
     let a = c.args in
     let cells = c.segment_cells-part.ensures in
-    let run = run_addressed (unpaint_cell a.length (routes a.rules.now)) a.territory (owns at.Then-is_pointer) 0 (omega (arith, cells.low))
+    let run = run_addressed (unpaint_cell a.length (routes a.live.words.now)) a.territory (owns at.Then-is_pointer) 0 (omega (arith, cells.low))
     (omega (arith, cells.low, cells.high)) (omega (arith, c.block_start-start.ensures)) c.unpaint_run-changed.ensures.changed in
     record {
       some = omega arith;

@@ -6,21 +6,19 @@ use Rattle.prefix.specs.Geometry.{block_size, block_start}
 use Rattle.cells.specs.Cells.{empty, length_of, pointer_bit, is_pointer}
 use Rattle.cells.specs.Memory.{Tables}
 use Rattle.rules.specs.Rules.{routes}
-use Rattle.rules.specs.inner.Places.{Listed}
 use Rattle.runs.specs.declared.Run.{Run}
 use Rattle.runs.specs.inner.Kept.{Kept}
 use Rattle.tables.specs.Cellwise.{unpaint_cell}
 use Rattle.tables.specs.inner.Ranges.{RunChanged, BlocksChanged}
 
--- the rule words are listed, and the run holds at the address a
-pub record Asking (ws : List ℕ) (live a : ℕ) (run : Run) : Type 0 where
-  pub listed : Listed ws live
-  pub kept : Kept ws live a run
+-- the run holds at the address a, over words that are all live
+abbrev pub KeptAt : List ℕ → ℕ → Run → Type 0
+KeptAt ws a run = Kept ws (length ws) a run
 
--- the run holds at the address a, and ends past it
-pub record Found (ws : List ℕ) (live a : ℕ) (run : Run) : Type 0 where
+-- it does, and ends past it
+pub record Found (ws : List ℕ) (a : ℕ) (run : Run) : Type 0 where
   pub past : a < run.end
-  pub kept : Kept ws live a run
+  pub kept : KeptAt ws a run
 
 -- ---- one cell
 
@@ -65,18 +63,18 @@ pub record PieceIs (room from to : ℕ) (first : List ℕ) (at : ℕ) : Type 0 w
 -- ---- what the loops leave
 
 -- the cells from..to, of the addresses from a on, are changed, and the run holds past them
-pub record RunUnpainted (l : ℕ) (ws : List ℕ) (live a from to : ℕ) (cells after : List ℕ) (r : ℕ) (run : Run) : Type 0 where
+pub record RunUnpainted (l : ℕ) (ws : List ℕ) (a from to : ℕ) (cells after : List ℕ) (r : ℕ) (run : Run) : Type 0 where
   pub changed : RunChanged (λ i. unpaint_cell l (routes ws) (a + (i - from))) from to cells after r
-  pub kept : Kept ws live (a + (to - from)) run
+  pub kept : KeptAt ws (a + (to - from)) run
 
 -- the blocks from..to are changed, and the run holds past them
-pub record BlocksUnpainted (t : Prefix) (l : ℕ) (ws : List ℕ) (live from to : ℕ) (tables : Tables) (first long : List ℕ) (r : ℕ) (run : Run) : Type 0 where
+pub record BlocksUnpainted (t : Prefix) (l : ℕ) (ws : List ℕ) (from to : ℕ) (tables : Tables) (first long : List ℕ) (r : ℕ) (run : Run) : Type 0 where
   pub blocks : BlocksChanged t (unpaint_cell l (routes ws)) from to tables first long r
-  pub kept : Kept ws live (block_start t to) run
+  pub kept : KeptAt ws (block_start t to) run
 
 -- some of the blocks from..to are, up to at
-pub record SomeUnpainted (t : Prefix) (l : ℕ) (ws : List ℕ) (live from to : ℕ) (tables : Tables) (first long : List ℕ) (r : ℕ) (run : Run) (at : ℕ)
+pub record SomeUnpainted (t : Prefix) (l : ℕ) (ws : List ℕ) (from to : ℕ) (tables : Tables) (first long : List ℕ) (r : ℕ) (run : Run) (at : ℕ)
     : Type 0 where
   pub some : from < at
   pub within : at ≤ to
-  pub done : BlocksUnpainted t l ws live from at tables first long r run
+  pub done : BlocksUnpainted t l ws from at tables first long r run
