@@ -50,7 +50,12 @@ pub fn clear(
     ensures { reported (record { code = code_of result; cells = 0 }) (lent_of first.new long.new owners.new rules.new)
         ≡ clear territory (lent_of first.old long.old owners.old rules.old) }
 {
-    let lent = Lent { first, long, owners, rules };
+    let lent = Lent {
+        first,
+        long,
+        owners,
+        rules,
+    };
     codes::clear_checked(lent, territory)?;
     first.fill(0);
     long.fill(0);
@@ -73,7 +78,12 @@ pub fn announce(
     ensures { reported (report_of result) (lent_of first.new long.new owners.new rules.new)
         ≡ step territory (announces (route_by prefix hop)) (lent_of first.old long.old owners.old rules.old) }
 {
-    let lent = Lent { first, long, owners, rules };
+    let lent = Lent {
+        first,
+        long,
+        owners,
+        rules,
+    };
     let checked = codes::announce_checked(lent, territory, prefix, hop)?;
     let cells = put::put_checked(first, long, owners, rules, territory, prefix, hop, checked);
     Ok(cells)
@@ -92,7 +102,12 @@ pub fn re_home(
     ensures { reported (report_of result) (lent_of first.new long.new owners.new rules.new)
         ≡ step territory (re_homes (route_by prefix hop)) (lent_of first.old long.old owners.old rules.old) }
 {
-    let lent = Lent { first, long, owners, rules };
+    let lent = Lent {
+        first,
+        long,
+        owners,
+        rules,
+    };
     let checked = codes::re_home_checked(lent, territory, prefix, hop)?;
     let cells = put::put_checked(first, long, owners, rules, territory, prefix, hop, checked);
     Ok(cells)
@@ -110,7 +125,12 @@ pub fn withdraw(
     ensures { reported (report_of result) (lent_of first.new long.new owners.new rules.new)
         ≡ step territory (withdraws prefix) (lent_of first.old long.old owners.old rules.old) }
 {
-    let lent = Lent { first, long, owners, rules };
+    let lent = Lent {
+        first,
+        long,
+        owners,
+        rules,
+    };
     let checked = codes::withdraw_checked(lent, territory, prefix)?;
     let cells = take::take_checked(first, long, owners, rules, territory, prefix, checked);
     Ok(cells)

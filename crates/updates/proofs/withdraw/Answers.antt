@@ -9,7 +9,7 @@ use Rattle.updates.proofs.withdraw.Goals as goal
 pub returns-in_err-checked : goal.returns-in_err-checked
 returns-in_err-checked c =
     let p = err_from_is_err_and c.from_residual.result c.from_residual.ensures.1 in
-    rw (p.1, p.2) (refuses c.args.territory (withdraws c.args.prefix) (lent_of c.args.first.now c.args.long.now c.args.owners.now c.args.rules.now) c.in_err-checked.ensures.number)
+    rw (p.1, p.2) (refuses c.args.territory (withdraws c.args.prefix) (lent_of c.args.first.now c.args.long.now c.args.owners.now c.args.rules.now) _ c.in_err-checked.ensures.number)
 
 pub take_checked-cells-requires : goal.take_checked-cells-requires
 take_checked-cells-requires c = withdraw_takable c.in_ok-checked.ensures

@@ -1,6 +1,6 @@
 -- `put::paint_route` meets its contract: where a segment is opened for the block it is opened and painted, and else the cells are painted
 -- where they stand. Assumes nothing.
-use mathlib.Core.Path.{sym, ap, ◌∙◌}
+use mathlib.Core.Path.{ap}
 use native.Mathlib.Omega.{arith}
 use Rattle.prefix.specs.declared.geometry.Blocks.{Blocks}
 use Rattle.cells.specs.Memory.{tables_of}
