@@ -1,10 +1,21 @@
 -- What `read_as` and `write_as` answer, one law for each way through the code, and the room that the stores of a record leave.
 -- Assumes nothing.
-use Rattle.std.proofs.Common.{◌≡◌, ℕ, suc, ◌+◌, ◌/◌, ◌%◌, ◌<◌, ◌≤◌, true, false, not, eqb, List, [], ◌∷◌, ◌++◌, length, get_or, drop, set, ◌∙◌, add-one, arith, le-ltb, lt-ltb, eq-eqb, ne_eqb}
+use Rattle.std.proofs.Common.{◌≡◌, Result, Ok, Err, ap, ℕ, suc, ◌+◌, ◌/◌, ◌%◌, ◌<◌, ◌≤◌, true, false, not, eqb, List, [], ◌∷◌, ◌++◌, length, get_or, drop, set, ◌∙◌, add-one, arith, le-ltb, lt-ltb, eq-eqb, ne_eqb}
 use lib.Seq.{sets, sets-eq}
+use Rattle.ground.specs.declared.refusal.Refusal.{Refusal}
+use Rattle.ground.specs.Refusals.{number}
+use Rattle.ground.proofs.Refusals.{number_tells, number_some}
 use Rattle.records.specs.BigEndian.{u16_at, split2, split4}
-use Rattle.records.specs.Record.{known, stray_hop, encoded, fields, refusal, accepted, judged, read_as, write_as, Writes}
+use Rattle.records.specs.Record.{known, stray_hop, encoded, fields, refusal, accepted, reading_of, judged, read_as, write_as, Writes}
 use Rattle.records.specs.declared.Update.{Update}
+use Rattle.records.specs.declared.Reading.{Reading}
+
+-- a reading tells the outcome that it stands for
+pub reading_tells : (x y : Result Update Refusal) → reading_of x ≡ reading_of y → x ≡ y
+reading_tells (Ok u) (Ok v) same = ap (λ (r : Reading). Ok r.update) same
+reading_tells (Ok u) (Err s) same = let number_none : 0 ≡ number s = ap (λ (r : Reading). r.code) same in cc (number_some s)
+reading_tells (Err r) (Ok v) same = let number_none : number r ≡ 0 = ap (λ (r : Reading). r.code) same in cc (number_some r)
+reading_tells (Err r) (Err s) same = ap (λ e. Err e) (number_tells r s (ap (λ (r : Reading). r.code) same))
 
 -- the tests of the fields, in their order
 module _ (u : Update) (expected : ℕ) where
