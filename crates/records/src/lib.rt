@@ -2,11 +2,11 @@
 // version, kind, serial (4), address (4), prefix length, hop (2). What only tables can judge is not judged here.
 #![tactic(auto)]
 
-ghost use Rattle.std.specs.Prelude.{◌≡◌, ◌≤◌, ◌++◌, length, drop};
+ghost use Rattle.std.specs.Prelude.{◌≡◌};
 ghost use Rattle.ground.specs.Refusals.{code_of};
-ghost use Rattle.records.specs.Record.{size, byte_of, kind_of, stray_hop, fields, encoded, reading_of, judged, read_as, Writes, next_serial};
+ghost use Rattle.records.specs.Record.{byte_of, kind_of, stray_hop, fields, encoded, reading_of, judged, read_as, Writes, next_serial};
 
-use ground::refusal::{self, Refusal};
+use ground::refusal::Refusal;
 
 // What an update asks of the tables. As a number it is the byte of the record.
 #[derive(Clone, Copy, Debug, PartialEq, Eq)]
@@ -33,13 +33,23 @@ impl TryFrom<u8> for Kind {
 
 // An update as C has it. Its fields have the widths of the record, and its kind may be any byte.
 #[repr(C)]
-#[derive(Clone, Copy)]
+#[derive(Clone, Copy, Default)]
 pub struct Update {
     pub kind: u8,
     pub serial: u32,
     pub address: u32,
     pub length: u8,
     pub hop: u16,
+}
+
+impl Update {
+    // The bytes of a record.
+    pub const SIZE: usize = 15;
+
+    // What the length field says: the bytes that follow it.
+    pub const LENGTH_FIELD: u16 = 13;
+
+    pub const VERSION: u8 = 1;
 }
 
 // What reading gives, as C has it: 0 and the update, or the number of a refusal and an all-zero update.
@@ -58,26 +68,10 @@ impl From<Result<Update, Refusal>> for Reading {
             Ok(update) => Reading { code: 0, update },
             Err(refusal) => Reading {
                 code: refusal.into(),
-                update: Update {
-                    kind: 0,
-                    serial: 0,
-                    address: 0,
-                    length: 0,
-                    hop: 0,
-                },
+                update: Update::default(),
             },
         }
     }
-}
-
-impl Update {
-    // The bytes of a record.
-    pub const SIZE: usize = 15;
-
-    // What the length field says: the bytes that follow it.
-    pub const LENGTH_FIELD: u16 = 13;
-
-    pub const VERSION: u8 = 1;
 }
 
 // A withdraw names no hop.
