@@ -17,6 +17,7 @@ ghost use Rattle.rules.specs.Words.{route_by};
 ghost use Rattle.updates.specs.Calls.{reported, step, clear};
 
 use costs::line::Values;
+use ground::refusal;
 use prefix::Prefix;
 use records::{Reading, Update};
 use updates::Report;
@@ -150,14 +151,14 @@ pub extern "C" fn rk_re_home(
 pub extern "C" fn rk_read_record(bytes: &[u8], expected: u32) -> Reading
     ensures { result ≡ read_as bytes.now expected }
 {
-    records::read(bytes, expected)
+    records::read(bytes, expected).into()
 }
 
 #[unsafe(no_mangle)]
 pub extern "C" fn rk_write_record(room: &mut [u8], update: Update) -> u32
     ensures { Writes room.old update result room.new }
 {
-    records::write(room, update)
+    refusal::code(records::write(room, update))
 }
 
 #[unsafe(no_mangle)]

@@ -24,7 +24,7 @@ read_back room after u w o =
     let bytes = encoded u ++ drop 15 room in
     let left = fills room u p.enough p.kind bytes p.hop refl in
     ap (λ (l : List ℕ). read_as l u.serial) (o.room ∙ sym left.room)
-    ∙ sym (goes_on_lem bytes u.serial (omega arith) refl (omega arith) refl)
+    ∙ sym (goes_on_lem bytes u.serial refl (omega arith) refl)
     ∙ ap (λ (v : Update). judged v u.serial) (fields-encoded u w (drop 15 room))
     ∙ sym (accepts u u.serial p.kind refl p.hop)
 
@@ -67,7 +67,7 @@ module _ (bytes : List ℕ) (byte : (i : ℕ) → i < length bytes → get_or by
   pub written_back : (expected : ℕ) (room : List ℕ) → (read_as bytes expected).code ≡ 0 → 15 ≤ length room → Writes room (read_as bytes expected).update 0 (take 15 bytes ++ drop 15 room)
   written_back expected room e enough =
       let p = readable bytes expected e in
-      let got = accepts (fields bytes) expected p.kind p.serial p.hop ∙ goes_on_lem bytes expected (omega arith) p.length_field_lem p.whole p.version in
+      let got = accepts (fields bytes) expected p.kind p.serial p.hop ∙ goes_on_lem bytes expected p.length_field_lem p.whole p.version in
       let same = ap (λ (l : List ℕ). l ++ drop 15 room) (encoded-fields p.whole p.length_field_lem p.version) in
       subst (λ (r : Reading). Writes room r.update 0 (take 15 bytes ++ drop 15 room)) got
       (fills room (fields bytes) enough p.kind (take 15 bytes ++ drop 15 room) p.hop (sym same))

@@ -1,7 +1,12 @@
 -- Update records: the bytes of an update, what read answers for any bytes, and what write answers and leaves for any room.
 -- Assumes nothing.
-use Rattle.std.specs.Prelude.{◌≡◌, ℕ, ◌+◌, ◌%◌, ◌^◌, ◌<◌, Bool, cond, not, ◌&&◌, ◌||◌, List, [], ◌∷◌, ◌++◌, length, drop, ◌==◌, nat_lt, slice_index}
+use Rattle.std.specs.Prelude.{◌≡◌, ℕ, ◌+◌, ◌%◌, ◌^◌, ◌<◌, Bool, cond, not, ◌&&◌, ◌||◌, List, [], ◌∷◌, ◌++◌, length, drop, ◌==◌, nat_lt, slice_index, Result, Ok, Err}
+use Rattle.ground.specs.declared.refusal.Refusal.{Refusal}
+use Rattle.ground.specs.declared.refusal.Refusal.TheVariants.{WrongKind}
+use Rattle.ground.specs.Refusals.{number}
 use Rattle.records.specs.BigEndian.{u16_at, u32_at, split2, split4}
+use Rattle.records.specs.declared.Kind.{Kind}
+use Rattle.records.specs.declared.Kind.TheVariants.{Announce, Withdraw, ReHome}
 use Rattle.records.specs.declared.Update.{Update}
 use Rattle.records.specs.declared.Reading.{Reading}
 
@@ -36,6 +41,19 @@ re_home = 3
 abbrev pub known : ℕ → Bool
 known kind = kind == announce || kind == withdraw || kind == re_home
 
+-- the byte of a kind, and the kind of a byte
+abbrev pub byte_of : Kind → ℕ
+byte_of Announce = announce
+byte_of Withdraw = withdraw
+byte_of ReHome = re_home
+
+abbrev pub kind_of : ℕ → Result Kind Refusal
+kind_of byte =
+    cond (byte == announce) (Ok Announce)
+    (cond (byte == withdraw) (Ok Withdraw)
+    (cond (byte == re_home) (Ok ReHome)
+    (Err WrongKind)))
+
 -- a withdraw with a hop that is not 0
 abbrev pub stray_hop : ℕ → ℕ → Bool
 stray_hop kind hop = kind == withdraw && not (hop == 0)
@@ -54,6 +72,11 @@ refusal code = record { code = code; update = record { kind = 0; serial = 0; add
 
 abbrev pub accepted : Update → Reading
 accepted u = record { code = 0; update = u }
+
+-- the outcome of a read in the paper's numbers
+abbrev pub reading_of : Result Update Refusal → Reading
+reading_of (Ok u) = accepted u
+reading_of (Err r) = refusal (number r)
 
 -- the tests run in the order written, and the first that passes refuses: those on the fields, and those of read before them
 abbrev pub judged : Update → ℕ → Reading

@@ -2,30 +2,44 @@
 // version, kind, serial (4), address (4), prefix length, hop (2). What only tables can judge is not judged here.
 #![tactic(auto)]
 
-mod big_endian;
+ghost use Rattle.std.specs.Prelude.{◌≡◌};
+ghost use Rattle.ground.specs.Refusals.{code_of};
+ghost use Rattle.records.specs.Record.{byte_of, kind_of, stray_hop, fields, encoded, reading_of, judged, read_as, Writes, next_serial};
 
-ghost use Rattle.std.specs.Prelude.{◌≡◌, ◌≤◌, ◌++◌, length, drop};
-ghost use Rattle.records.specs.Record.{size, known, stray_hop, fields, refusal, encoded, judged, read_as, Writes, next_serial};
+use ground::refusal::Refusal;
 
-use big_endian::{put_u16, put_u32, u16_at, u32_at};
+// What an update asks of the tables. As a number it is the byte of the record.
+#[derive(Clone, Copy, Debug, PartialEq, Eq)]
+pub enum Kind {
+    Announce = 1,
+    Withdraw = 2,
+    ReHome = 3,
+}
 
-// An update's fields have the widths of the record.
+impl TryFrom<u8> for Kind {
+    type Error = Refusal;
+
+    ghost try_from_gives = { λ byte outcome. outcome ≡ kind_of byte };
+
+    fn try_from(byte: u8) -> Result<Kind, Refusal> {
+        match byte {
+            1 => Ok(Kind::Announce),
+            2 => Ok(Kind::Withdraw),
+            3 => Ok(Kind::ReHome),
+            _ => Err(Refusal::WrongKind),
+        }
+    }
+}
+
+// An update as C has it. Its fields have the widths of the record, and its kind may be any byte.
 #[repr(C)]
-#[derive(Clone, Copy)]
+#[derive(Clone, Copy, Default)]
 pub struct Update {
     pub kind: u8,
     pub serial: u32,
     pub address: u32,
     pub length: u8,
     pub hop: u16,
-}
-
-// What reading gives: 0 and the update, or the number of a refusal and an all-zero update.
-#[repr(C)]
-#[derive(Clone, Copy)]
-pub struct Reading {
-    pub code: u32,
-    pub update: Update,
 }
 
 impl Update {
@@ -36,132 +50,118 @@ impl Update {
     pub const LENGTH_FIELD: u16 = 13;
 
     pub const VERSION: u8 = 1;
-
-    pub const ANNOUNCE: u8 = 1;
-
-    pub const WITHDRAW: u8 = 2;
-
-    pub const RE_HOME: u8 = 3;
 }
 
-fn is_known(kind: u8) -> bool
-    ensures { result ≡ known kind }
-{
-    if kind == Update::ANNOUNCE {
-        return true;
+// What reading gives, as C has it: 0 and the update, or the number of a refusal and an all-zero update.
+#[repr(C)]
+#[derive(Clone, Copy)]
+pub struct Reading {
+    pub code: u32,
+    pub update: Update,
+}
+
+impl From<Result<Update, Refusal>> for Reading {
+    ghost from_gives = { λ outcome reading. reading ≡ reading_of outcome };
+
+    fn from(outcome: Result<Update, Refusal>) -> Reading {
+        match outcome {
+            Ok(update) => Reading { code: 0, update },
+            Err(refusal) => Reading {
+                code: refusal.into(),
+                update: Update::default(),
+            },
+        }
     }
-    if kind == Update::WITHDRAW {
-        return true;
-    }
-    kind == Update::RE_HOME
 }
 
 // A withdraw names no hop.
-fn has_stray_hop(kind: u8, hop: u16) -> bool
-    ensures { result ≡ stray_hop kind hop }
+fn has_stray_hop(kind: Kind, hop: u16) -> bool
+    ensures { result ≡ stray_hop (byte_of kind) hop }
 {
-    kind == Update::WITHDRAW && hop != 0
+    kind == Kind::Withdraw && hop != 0
 }
 
-fn refused(code: u32) -> Reading
-    ensures { result ≡ refusal code }
-{
-    Reading {
-        code,
-        update: Update {
-            kind: 0,
-            serial: 0,
-            address: 0,
-            length: 0,
-            hop: 0,
-        },
-    }
-}
-
-fn update_of(bytes: &[u8]) -> Update
-    requires { size ≤ length bytes.now }
+// The fields of a record, whatever its length field and its version say.
+fn update_of(bytes: &[u8; Update::SIZE]) -> Update
     ensures { result ≡ fields bytes.now }
 {
     Update {
         kind: bytes[3],
-        serial: u32_at(bytes, 4),
-        address: u32_at(bytes, 8),
+        serial: u32::from_be_bytes([bytes[4], bytes[5], bytes[6], bytes[7]]),
+        address: u32::from_be_bytes([bytes[8], bytes[9], bytes[10], bytes[11]]),
         length: bytes[12],
-        hop: u16_at(bytes, 13),
+        hop: u16::from_be_bytes([bytes[13], bytes[14]]),
     }
+}
+
+// The record of an update.
+fn bytes_of(update: Update) -> [u8; Update::SIZE]
+    ensures { result ≡ encoded update }
+{
+    let mut bytes = [0; Update::SIZE];
+    bytes[..2].copy_from_slice(&Update::LENGTH_FIELD.to_be_bytes());
+    bytes[2] = Update::VERSION;
+    bytes[3] = update.kind;
+    bytes[4..8].copy_from_slice(&update.serial.to_be_bytes());
+    bytes[8..12].copy_from_slice(&update.address.to_be_bytes());
+    bytes[12] = update.length;
+    bytes[13..].copy_from_slice(&update.hop.to_be_bytes());
+    bytes
 }
 
 // The tests on the fields, of a record whose length and version are right.
-fn judge(update: Update, expected: u32) -> Reading
-    ensures { result ≡ judged update expected }
+fn judge(update: Update, expected: u32) -> Result<Update, Refusal>
+    ensures { reading_of result ≡ judged update expected }
 {
-    let known_kind = is_known(update.kind);
-    let expected_serial = update.serial == expected;
-    let stray_hop = has_stray_hop(update.kind, update.hop);
-    if !known_kind {
-        return refused(23);
+    let kind = Kind::try_from(update.kind)?;
+    if update.serial != expected {
+        return Err(Refusal::WrongSerial);
     }
-    if !expected_serial {
-        return refused(24);
+    if has_stray_hop(kind, update.hop) {
+        return Err(Refusal::WithdrawWithHop);
     }
-    if stray_hop {
-        return refused(25);
-    }
-    Reading { code: 0, update }
+    Ok(update)
 }
 
 // Reads the record that the first bytes hold, under the serial that is expected.
-pub fn read(bytes: &[u8], expected: u32) -> Reading
-    ensures { result ≡ read_as bytes.now expected }
+#[tactic(auto, unfolding(crate::specs::Record::read_as))]
+pub fn read(bytes: &[u8], expected: u32) -> Result<Update, Refusal>
+    ensures { reading_of result ≡ read_as bytes.now expected }
 {
-    if bytes.len() < 2 {
-        return refused(20);
+    let Some(length_field) = bytes.first_chunk() else {
+        return Err(Refusal::CutRecord);
+    };
+    if u16::from_be_bytes(*length_field) != Update::LENGTH_FIELD {
+        return Err(Refusal::WrongLengthField);
     }
-    if u16_at(bytes, 0) != Update::LENGTH_FIELD {
-        return refused(21);
+    let Some(record) = bytes.first_chunk() else {
+        return Err(Refusal::CutRecord);
+    };
+    if record[2] != Update::VERSION {
+        return Err(Refusal::WrongVersion);
     }
-    if bytes.len() < Update::SIZE {
-        return refused(20);
-    }
-    if bytes[2] != Update::VERSION {
-        return refused(22);
-    }
-    judge(update_of(bytes), expected)
-}
-
-fn put(room: &mut [u8], update: Update)
-    requires { size ≤ length room.old }
-    ensures { room.new ≡ encoded update ++ drop size room.old }
-{
-    put_u16(room, 0, Update::LENGTH_FIELD);
-    room[2] = Update::VERSION;
-    room[3] = update.kind;
-    put_u32(room, 4, update.serial);
-    put_u32(room, 8, update.address);
-    room[12] = update.length;
-    put_u16(room, 13, update.hop);
+    judge(update_of(record), expected)
 }
 
 // Writes the record of an update into the first bytes of the room. A refused write leaves the room as it was.
-pub fn write(room: &mut [u8], update: Update) -> u32
-    ensures { Writes room.old update result room.new }
+#[tactic(auto, unfolding(crate::specs::Record::write_as))]
+pub fn write(room: &mut [u8], update: Update) -> Result<(), Refusal>
+    ensures { Writes room.old update (code_of result) room.new }
 {
-    if room.len() < Update::SIZE {
-        return 26;
+    let Some(record) = room.first_chunk_mut() else {
+        return Err(Refusal::NoRecordRoom);
+    };
+    let kind = Kind::try_from(update.kind)?;
+    if has_stray_hop(kind, update.hop) {
+        return Err(Refusal::WithdrawWithHop);
     }
-    if !is_known(update.kind) {
-        return 23;
-    }
-    if has_stray_hop(update.kind, update.hop) {
-        return 25;
-    }
-    put(room, update);
-    0
+    *record = bytes_of(update);
+    Ok(())
 }
 
 // The serial that a stream expects after it accepted a record of this one.
 pub fn next_serial(serial: u32) -> u32
     ensures { result ≡ next_serial serial }
 {
-    std::num::wrapping_add_u32(serial, 1)
+    serial.wrapping_add(1)
 }

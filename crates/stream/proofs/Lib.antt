@@ -1,6 +1,5 @@
--- Laws of a stream: the call of an update, the stream of some bytes record by record, the counts of the last line, and demands 2 and 3.
+-- Laws of a stream: the stream of some bytes record by record, the counts of the last line, and demands 2 and 3.
 pub mod Counting
-mod Calling
 pub mod Streams
 mod Taking
 pub mod Demands

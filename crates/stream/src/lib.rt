@@ -11,7 +11,7 @@ ghost use Rattle.stream.specs.Taking.{TurnIs, TakenIs};
 pub mod counts;
 
 use prefix::Prefix;
-use records::Update;
+use records::{Kind, Update};
 use updates::Report;
 
 // Where a stream stands: it expects a record of this serial next, or it ended with the number of a record that reading refused.
@@ -53,13 +53,13 @@ fn take_update(
         length: update.length as u32,
     };
     let hop = update.hop as u32;
-    if update.kind == Update::ANNOUNCE {
-        return updates::announce(first, long, owners, rules, territory, prefix, hop);
+    match Kind::try_from(update.kind) {
+        Ok(Kind::Announce) => updates::announce(first, long, owners, rules, territory, prefix, hop),
+        Ok(Kind::Withdraw) => updates::withdraw(first, long, owners, rules, territory, prefix),
+        Ok(Kind::ReHome) | Err(_) => updates::re_home(
+            first, long, owners, rules, territory, prefix, hop,
+        ),
     }
-    if update.kind == Update::WITHDRAW {
-        return updates::withdraw(first, long, owners, rules, territory, prefix);
-    }
-    updates::re_home(first, long, owners, rules, territory, prefix, hop)
 }
 
 // Reads the record at the start of the bytes and takes its update. What the tables refuse is an answer too.
@@ -74,21 +74,20 @@ fn take_record(
 ) -> Turn
     ensures { TurnIs territory bytes.now expected (lent_of first.old long.old owners.old rules.old) result (lent_of first.new long.new owners.new rules.new) }
 {
-    let reading = records::read(bytes, expected);
-    let update = reading.update;
-    if reading.code != 0 {
-        let none = Report { code: 0, cells: 0 };
-        return Turn {
-            code: reading.code,
+    match records::read(bytes, expected) {
+        Ok(update) => {
+            let report = take_update(first, long, owners, rules, territory, update);
+            Turn {
+                code: 0,
+                serial: update.serial,
+                report,
+            }
+        }
+        Err(refusal) => Turn {
+            code: refusal.into(),
             serial: 0,
-            report: none,
-        };
-    }
-    let report = take_update(first, long, owners, rules, territory, update);
-    Turn {
-        code: 0,
-        serial: update.serial,
-        report,
+            report: Report { code: 0, cells: 0 },
+        },
     }
 }
 
