@@ -75,7 +75,7 @@ pub extern "C" fn rk_clear(
         address: base,
         length: base_length,
     };
-    updates::clear(first, long_table, owners, rules, territory)
+    refusal::code(updates::clear(first, long_table, owners, rules, territory))
 }
 
 #[unsafe(no_mangle)]
@@ -99,7 +99,7 @@ pub extern "C" fn rk_announce(
         length: base_length,
     };
     let prefix = Prefix { address, length };
-    updates::announce(first, long_table, owners, rules, territory, prefix, hop)
+    updates::announce(first, long_table, owners, rules, territory, prefix, hop).into()
 }
 
 #[unsafe(no_mangle)]
@@ -121,7 +121,7 @@ pub extern "C" fn rk_withdraw(
         length: base_length,
     };
     let prefix = Prefix { address, length };
-    updates::withdraw(first, long_table, owners, rules, territory, prefix)
+    updates::withdraw(first, long_table, owners, rules, territory, prefix).into()
 }
 
 #[unsafe(no_mangle)]
@@ -144,7 +144,7 @@ pub extern "C" fn rk_re_home(
         length: base_length,
     };
     let prefix = Prefix { address, length };
-    updates::re_home(first, long_table, owners, rules, territory, prefix, hop)
+    updates::re_home(first, long_table, owners, rules, territory, prefix, hop).into()
 }
 
 #[unsafe(no_mangle)]
