@@ -10,7 +10,8 @@ use lib.ListN.{length, get_or}
 use Rattle.ground.proofs.Tests.{Decides, holds, fails, eqb?, iff?, same_test, cond_on}
 use Rattle.prefix.specs.declared.Prefix.{Prefix}
 use Rattle.prefix.specs.Prefixes.{Contains}
-use Rattle.prefix.specs.Routes.{Route, best, IsBest, none, found, AllRoutes, Ascending}
+use Rattle.prefix.specs.declared.Route.{Route}
+use Rattle.prefix.specs.Routes.{best, IsBest, none, found, AllRoutes, Ascending}
 use Rattle.prefix.proofs.Prefixes.{contains?}
 use Rattle.prefix.proofs.Best.{best_is, longest_unique}
 use Rattle.lookup.specs.declared.look.Answer.{Answer}

@@ -4,7 +4,8 @@ use mathlib.Core.List.{List, [], ◌∷◌, Memᴰ as Mem}
 use Rattle.ground.specs.Sums.{sum}
 use Rattle.prefix.specs.declared.Prefix.{Prefix}
 use Rattle.prefix.specs.Prefixes.{Contains}
-use Rattle.prefix.specs.Routes.{Route, Match, no_route, via, best, IsLongest}
+use Rattle.prefix.specs.declared.Route.{Route}
+use Rattle.prefix.specs.Routes.{Match, no_route, via, best, IsLongest}
 use Rattle.cells.specs.Memory.{Lent}
 use Rattle.refusals.specs.Codes.{Call}
 use Rattle.history.specs.History.{History, start, ◌then◌, memory, live}

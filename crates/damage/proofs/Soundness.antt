@@ -16,7 +16,7 @@ use Rattle.prefix.specs.declared.Prefix.{Prefix}
 use Rattle.prefix.specs.declared.geometry.Blocks.{Blocks}
 use Rattle.prefix.specs.Price.{is_open}
 use Rattle.prefix.specs.Geometry.{width, block_size, block_start, blocks, block_of, touched}
-use Rattle.prefix.specs.Routes.{Route}
+use Rattle.prefix.specs.declared.Route.{Route}
 use Rattle.cells.specs.Cells.{empty, pointer_bit, segment_of}
 use Rattle.cells.proofs.Direct.{Direct, is_direct?}
 use Rattle.rules.specs.Rules.{routes, Formed}

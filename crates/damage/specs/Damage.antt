@@ -4,7 +4,7 @@ use Rattle.ground.specs.Lists.{every_below}
 use Rattle.prefix.specs.declared.Prefix.{Prefix}
 use Rattle.prefix.specs.Price.{is_open}
 use Rattle.prefix.specs.Geometry.{width, block_size, block_start, touched}
-use Rattle.prefix.specs.Routes.{Route}
+use Rattle.prefix.specs.declared.Route.{Route}
 use Rattle.cells.specs.Cells.{empty, is_direct, is_pointer, segment_of}
 use Rattle.cells.specs.Memory.{Tables, Lent}
 use Rattle.rules.specs.Rules.{routes, formed}

@@ -13,7 +13,8 @@ use Rattle.prefix.specs.declared.Prefix.{Prefix}
 use Rattle.prefix.specs.Prefixes.{contains, Encloses}
 use Rattle.prefix.specs.Geometry.{Territory, block_start, block_of, blocks, block_size, width}
 use Rattle.prefix.specs.Price.{opens, is_open}
-use Rattle.prefix.specs.Routes.{Route, best, with_route, IsRoute, AllRoutes}
+use Rattle.prefix.specs.declared.Route.{Route}
+use Rattle.prefix.specs.Routes.{best, with_route, IsRoute, AllRoutes}
 use Rattle.prefix.proofs.Changes.{best_with}
 use Rattle.prefix.proofs.Blocks.{opens?, opened_with, closed, block_top}
 use Rattle.cells.specs.Cells.{pack, pointer_bit, point_to, cell_of}

@@ -13,7 +13,8 @@ use Rattle.prefix.specs.declared.Prefix.{Prefix}
 use Rattle.prefix.specs.Prefixes.{WellFormed, Contains, Encloses}
 use Rattle.prefix.specs.Geometry.{Territory, block_start, block_of, blocks, block_size, width}
 use Rattle.prefix.specs.Price.{is_open, differ, block_price, price}
-use Rattle.prefix.specs.Routes.{Route, Match, no_route, best}
+use Rattle.prefix.specs.declared.Route.{Route}
+use Rattle.prefix.specs.Routes.{Match, no_route, best}
 use Rattle.prefix.proofs.Blocks.{Opens, same?, differ_same, differ-other, block_none}
 use Rattle.prefix.proofs.Spans.{touches, blocks_inside, opens_only}
 

@@ -18,7 +18,8 @@ use Rattle.ground.proofs.Sums.{sum_cong, sum_none, sum_groups}
 use Rattle.prefix.specs.declared.Prefix.{Prefix}
 use Rattle.prefix.specs.Price.{is_open, differ, price}
 use Rattle.prefix.specs.Geometry.{blocks, block_start, block_size}
-use Rattle.prefix.specs.Routes.{Route, no_route, best, AllRoutes}
+use Rattle.prefix.specs.declared.Route.{Route}
+use Rattle.prefix.specs.Routes.{no_route, best, AllRoutes}
 use Rattle.prefix.proofs.Blocks.{entry_differs, cell, price_cells, differ_same}
 use Rattle.cells.specs.Cells.{point_to, cell_of}
 use Rattle.cells.specs.Memory.{Tables}

@@ -12,7 +12,8 @@ use Rattle.prefix.specs.declared.Prefix.{Prefix}
 use Rattle.prefix.specs.Prefixes.{top, Contains}
 use Rattle.prefix.specs.Price.{is_open}
 use Rattle.prefix.specs.Geometry.{blocks, block_start, block_of, block_size, width}
-use Rattle.prefix.specs.Routes.{Route, Match, no_route, via, best, IsLongest, IsBest, none, found, AllRoutes, Ascending}
+use Rattle.prefix.specs.declared.Route.{Route}
+use Rattle.prefix.specs.Routes.{Match, no_route, via, best, IsLongest, IsBest, none, found, AllRoutes, Ascending}
 use Rattle.prefix.proofs.Prefixes.{cut_to, in_range_lem}
 use Rattle.prefix.proofs.Best.{best_is, longest_unique}
 use Rattle.prefix.proofs.Blocks.{closed, closed_short, block_top}

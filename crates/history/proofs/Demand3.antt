@@ -15,7 +15,8 @@ use Rattle.prefix.specs.declared.Prefix.{Prefix}
 use Rattle.prefix.specs.Prefixes.{Contains, WellFormed, Encloses}
 use Rattle.prefix.specs.Price.{is_open, price}
 use Rattle.prefix.specs.Geometry.{block_start, width}
-use Rattle.prefix.specs.Routes.{Route, best, named, Change, applied, puts, takes}
+use Rattle.prefix.specs.declared.Route.{Route}
+use Rattle.prefix.specs.Routes.{best, named, Change, applied, puts, takes}
 use Rattle.prefix.proofs.Best.{better_off}
 use Rattle.prefix.proofs.Changes.{best_with, with_same, without_other}
 use Rattle.prefix.proofs.Blocks.{Opens, opens?, opened_with, opened_without_other, price_none}

@@ -6,7 +6,8 @@ use Prim.Native.Nat.{ℕ}
 use lib.Dec.{eqb}
 use Rattle.ground.proofs.Tests.{eqb?, passes, stops, says, cond_on}
 use Rattle.prefix.specs.declared.Prefix.{Prefix}
-use Rattle.prefix.specs.Routes.{Route, is_change, applied}
+use Rattle.prefix.specs.declared.Route.{Route}
+use Rattle.prefix.specs.Routes.{is_change, applied}
 use Rattle.prefix.proofs.Prefixes.{well_formed?}
 use Rattle.prefix.proofs.Best.{is_route?}
 use Rattle.rules.specs.Rules.{routes, is_live}

@@ -17,7 +17,8 @@ use Rattle.prefix.specs.declared.Prefix.{Prefix}
 use Rattle.prefix.specs.Prefixes.{WellFormed, Encloses, Before}
 use Rattle.prefix.specs.Geometry.{Territory, block_start, block_of, block_size}
 use Rattle.prefix.specs.Price.{opened as opened-run}
-use Rattle.prefix.specs.Routes.{Route, best, with_route, without, keep, other, IsRoute, AllRoutes, Ascending, Change, applied, puts, takes}
+use Rattle.prefix.specs.declared.Route.{Route}
+use Rattle.prefix.specs.Routes.{best, with_route, without, keep, other, IsRoute, AllRoutes, Ascending, Change, applied, puts, takes}
 use Rattle.prefix.proofs.Changes.{with_cases, keep_cases, with_mem, with_routes, with_ascending, without_mem, without-routes, without-ascending}
 use Rattle.rules.specs.Words.{word_of}
 use Rattle.rules.specs.Rules.{routes, words_of, is_live}

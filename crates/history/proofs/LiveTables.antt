@@ -3,7 +3,8 @@ use mathlib.Core.List.{List}
 use Rattle.prefix.specs.declared.Prefix.{Prefix}
 use Rattle.prefix.specs.Geometry.{block_start}
 use Rattle.prefix.specs.Price.{is_open}
-use Rattle.prefix.specs.Routes.{Route, best}
+use Rattle.prefix.specs.declared.Route.{Route}
+use Rattle.prefix.specs.Routes.{best}
 use Rattle.cells.specs.Cells.{cell_of}
 use Rattle.cells.specs.Memory.{Tables}
 use Rattle.history.proofs.Holding.{Holds}

@@ -12,7 +12,8 @@ use Rattle.ground.proofs.Lists.{differs-same, differs-other}
 use Rattle.prefix.specs.declared.Prefix.{Prefix}
 use Rattle.prefix.specs.Prefixes.{contains, WellFormed, Contains}
 use Rattle.prefix.specs.Price.{differ}
-use Rattle.prefix.specs.Routes.{Route, Match, no_route, via, better, best, without, no_longer, last_hop, AllRoutes, Ascending}
+use Rattle.prefix.specs.declared.Route.{Route}
+use Rattle.prefix.specs.Routes.{Match, no_route, via, better, best, without, no_longer, last_hop, AllRoutes, Ascending}
 use Rattle.prefix.proofs.Prefixes.{contains?}
 use Rattle.prefix.proofs.Changes.{best-length, has_length, without_other}
 use Rattle.prefix.proofs.Blocks.{differ_same, differ-other}

@@ -12,7 +12,8 @@ use Rattle.updates.specs.Effects.{effect}
 use Rattle.prefix.specs.declared.Prefix.{Prefix}
 use Rattle.prefix.specs.Prefixes.{encloses, WellFormed, Encloses}
 use Rattle.prefix.specs.Geometry.{blocks, block_start, width}
-use Rattle.prefix.specs.Routes.{Route, Match, no_route, via, best, Change, is_change, named}
+use Rattle.prefix.specs.declared.Route.{Route}
+use Rattle.prefix.specs.Routes.{Match, no_route, via, best, Change, is_change, named}
 use Rattle.prefix.proofs.Prefixes.{encloses?}
 use Rattle.prefix.proofs.Blocks.{closed_short}
 use Rattle.cells.specs.Cells.{segment_of, cell_of}

@@ -12,7 +12,8 @@ use Rattle.prefix.specs.declared.Prefix.{Prefix}
 use Rattle.prefix.specs.Prefixes.{contains, WellFormed, Encloses}
 use Rattle.prefix.specs.Geometry.{Territory, block_start, block_of, blocks, width}
 use Rattle.prefix.specs.Price.{is_open}
-use Rattle.prefix.specs.Routes.{Route, best, without, AllRoutes, Ascending}
+use Rattle.prefix.specs.declared.Route.{Route}
+use Rattle.prefix.specs.Routes.{best, without, AllRoutes, Ascending}
 use Rattle.prefix.proofs.Blocks.{Opens, opened?, opened_without_other, opened_fewer}
 use Rattle.prefix.proofs.Changes.{without-routes}
 use Rattle.cells.specs.Cells.{pointer_bit, point_to, segment_of, cell_of}

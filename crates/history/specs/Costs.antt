@@ -4,7 +4,7 @@ use Rattle.ground.specs.Sums.{sum}
 use Rattle.prefix.specs.declared.Prefix.{Prefix}
 use Rattle.prefix.specs.Price.{is_open, price}
 use Rattle.prefix.specs.Geometry.{width, block_start, touched}
-use Rattle.prefix.specs.Routes.{Route}
+use Rattle.prefix.specs.declared.Route.{Route}
 use Rattle.cells.specs.Memory.{Lent}
 use Rattle.tables.specs.Changes.{changed}
 

@@ -4,7 +4,8 @@ use Rattle.std.specs.Prelude.{◌≡◌, ℕ, Bool, cond, eqb}
 use mathlib.Core.List.{List, [], Memᴰ as Mem}
 use Rattle.prefix.specs.declared.Prefix.{Prefix}
 use Rattle.prefix.specs.Prefixes.{prefix_by, cleared_of, Contains}
-use Rattle.prefix.specs.Routes.{Route, applied, IsLongest}
+use Rattle.prefix.specs.declared.Route.{Route}
+use Rattle.prefix.specs.Routes.{applied, IsLongest}
 use Rattle.cells.specs.Memory.{Lent}
 use Rattle.lookup.specs.declared.look.Answer.{Answer}
 use Rattle.lookup.specs.Lookup.{found, refused}

@@ -18,7 +18,7 @@ ghost use Rattle.updates.specs.Calls.{reported, step, clear};
 
 use costs::line::Values;
 use ground::refusal::code;
-use prefix::Prefix;
+use prefix::{Prefix, Route};
 use records::{Reading, Update};
 use updates::Report;
 
@@ -99,7 +99,8 @@ pub extern "C" fn rk_announce(
         length: base_length,
     };
     let prefix = Prefix { address, length };
-    updates::announce(first, long_table, owners, rules, territory, prefix, hop).into()
+    let route = Route { prefix, hop };
+    updates::announce(first, long_table, owners, rules, territory, route).into()
 }
 
 #[unsafe(no_mangle)]
@@ -144,7 +145,8 @@ pub extern "C" fn rk_re_home(
         length: base_length,
     };
     let prefix = Prefix { address, length };
-    updates::re_home(first, long_table, owners, rules, territory, prefix, hop).into()
+    let route = Route { prefix, hop };
+    updates::re_home(first, long_table, owners, rules, territory, route).into()
 }
 
 #[unsafe(no_mangle)]

@@ -3,7 +3,8 @@
 use Rattle.std.specs.Prelude.{ℕ, cond, not, ◌&&◌}
 use Rattle.prefix.specs.declared.Prefix.{Prefix}
 use Rattle.prefix.specs.Prefixes.{encloses}
-use Rattle.prefix.specs.Routes.{Route, Change, puts, takes, named, is_change}
+use Rattle.prefix.specs.declared.Route.{Route}
+use Rattle.prefix.specs.Routes.{Change, puts, takes, named, is_change}
 use Rattle.rules.specs.Rules.{routes, is_live}
 use Rattle.cells.specs.Memory.{Lent, is_lent, no_zero, needs_segment}
 use Rattle.damage.specs.Damage.{undamaged}

@@ -2,7 +2,6 @@
 ghost use Rattle.std.specs.Prelude.{◌≡◌, true, not, ◌&&◌, eqb};
 ghost use Rattle.prefix.specs.Prefixes.{WellFormed, Encloses};
 ghost use Rattle.prefix.specs.Routes.{is_route};
-ghost use Rattle.rules.specs.Words.{route_by};
 ghost use Rattle.cells.specs.Memory.{IsLent, held};
 ghost use Rattle.ground.specs.Refusals.{code_of};
 ghost use Rattle.refusals.specs.Codes.{announces, withdraws, re_homes, clear_code};
@@ -13,7 +12,7 @@ use cells::segments::{free_segment, needs_segment};
 use damage::blocks_sound;
 use ground::refusal::Refusal;
 use prefix::geometry::{Blocks, touched};
-use prefix::{LAST_HOP, Prefix};
+use prefix::{LAST_HOP, Prefix, Route};
 use rules::form::form_of;
 
 // What the tests found of an update that none of them refuses: how many rules are live, where the prefix stands among them or would stand, the
@@ -26,17 +25,17 @@ pub struct Checked {
     pub segment: Option<usize>,
 }
 
-// Whether refusal 2 lets a prefix with a hop pass.
-fn is_route(prefix: Prefix, hop: u32) -> bool
-    ensures { result ≡ is_route (route_by prefix hop) }
+// Whether refusal 2 lets a route pass.
+fn is_route(route: Route) -> bool
+    ensures { result ≡ is_route route }
 {
-    if hop < 1 {
+    if route.hop < 1 {
         return false;
     }
-    if LAST_HOP < hop {
+    if LAST_HOP < route.hop {
         return false;
     }
-    prefix.well_formed()
+    route.prefix.well_formed()
 }
 
 // Refusal 4. Past it the prefix is looked for in the list.
@@ -98,19 +97,14 @@ fn is_full(found: bool, used: usize, words: usize) -> bool
 }
 
 // The refusal of an announce: 1 to 4, 6 and 7.
-pub fn announce_checked(
-    lent: Lent,
-    territory: Prefix,
-    prefix: Prefix,
-    hop: u32,
-) -> Result<Checked, Refusal>
-    ensures { CheckedIs territory (announces (route_by prefix hop)) (held lent.entry) result }
+pub fn announce_checked(lent: Lent, territory: Prefix, route: Route) -> Result<Checked, Refusal>
+    ensures { CheckedIs territory (announces route) (held lent.entry) result }
 {
-    let checked = tests(lent, territory, prefix, is_route(prefix, hop))?;
+    let checked = tests(lent, territory, route.prefix, is_route(route))?;
     if is_full(checked.place.is_ok(), checked.used, lent.rules.len()) {
         return Err(Refusal::NoRuleWord);
     }
-    if !needs_segment(lent.first[checked.blocks.from], prefix.length) {
+    if !needs_segment(lent.first[checked.blocks.from], route.prefix.length) {
         return Ok(checked);
     }
     let Some(segment) = free_segment(lent.owners) else {
@@ -130,15 +124,10 @@ pub fn withdraw_checked(lent: Lent, territory: Prefix, prefix: Prefix) -> Result
 }
 
 // The refusal of a re-homing: 1 to 5.
-pub fn re_home_checked(
-    lent: Lent,
-    territory: Prefix,
-    prefix: Prefix,
-    hop: u32,
-) -> Result<Checked, Refusal>
-    ensures { CheckedIs territory (re_homes (route_by prefix hop)) (held lent.entry) result }
+pub fn re_home_checked(lent: Lent, territory: Prefix, route: Route) -> Result<Checked, Refusal>
+    ensures { CheckedIs territory (re_homes route) (held lent.entry) result }
 {
-    live_tests(lent, territory, prefix, is_route(prefix, hop))
+    live_tests(lent, territory, route.prefix, is_route(route))
 }
 
 // The refusal of a clear: 1.

@@ -10,7 +10,8 @@ use Rattle.ground.proofs.Cases.{by_cmp}
 use Rattle.ground.proofs.Tests.{says, denies}
 use Rattle.prefix.specs.declared.Prefix.{Prefix}
 use Rattle.prefix.specs.Prefixes.{WellFormed, Before}
-use Rattle.prefix.specs.Routes.{Route, with_route, without}
+use Rattle.prefix.specs.declared.Route.{Route}
+use Rattle.prefix.specs.Routes.{with_route, without}
 use Rattle.rules.specs.Words.{prefix_of, route_of, route_by, word_of, key_of}
 use Rattle.rules.specs.Rules.{routes, words_of}
 use Rattle.rules.specs.inner.Places.{Listed, prefix_at, key_at, PlaceIs, inserted_at, removed_at}

@@ -13,7 +13,7 @@ use Rattle.ground.proofs.Tests.{Decides, fails, ltb?, or?, iff?, same_test}
 use Rattle.ground.proofs.Cases.{by_lt}
 use Rattle.prefix.specs.Prefixes.{top}
 use Rattle.prefix.specs.Geometry.{width, block_size}
-use Rattle.prefix.specs.Routes.{Route}
+use Rattle.prefix.specs.declared.Route.{Route}
 use Rattle.prefix.proofs.Blocks.{Opened, opened?}
 use Rattle.rules.specs.Words.{route_of, key_of}
 use Rattle.rules.specs.Rules.{routes}

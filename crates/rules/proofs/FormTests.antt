@@ -17,7 +17,8 @@ use Rattle.ground.proofs.Tests.{Decides, holds, eqb?, and?, iff?, same_test}
 use Rattle.ground.proofs.Members.{mem_index, index_mem}
 use Rattle.prefix.specs.declared.Prefix.{Prefix}
 use Rattle.prefix.specs.Prefixes.{Before}
-use Rattle.prefix.specs.Routes.{Route, IsRoute, Ascending}
+use Rattle.prefix.specs.declared.Route.{Route}
+use Rattle.prefix.specs.Routes.{IsRoute, Ascending}
 use Rattle.prefix.proofs.Order.{before?}
 use Rattle.rules.specs.Words.{prefix_of, route_of, is_rule, IsRule}
 use Rattle.rules.specs.Rules.{live_words, routes, every, ascending, formed, Formed}

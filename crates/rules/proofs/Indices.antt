@@ -14,7 +14,8 @@ use Rattle.ground.proofs.Tests.{Decides, fails, or?, iff?}
 use Rattle.ground.proofs.Members.{mem_index, index_mem}
 use Rattle.prefix.specs.declared.Prefix.{Prefix}
 use Rattle.prefix.specs.Prefixes.{Before}
-use Rattle.prefix.specs.Routes.{Route, IsRoute, Ascending}
+use Rattle.prefix.specs.declared.Route.{Route}
+use Rattle.prefix.specs.Routes.{IsRoute, Ascending}
 use Rattle.prefix.proofs.Order.{key, same_prefix?}
 use Rattle.rules.specs.Words.{prefix_of, route_of}
 use Rattle.rules.specs.Rules.{live_words, routes, is_live}

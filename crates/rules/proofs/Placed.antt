@@ -9,7 +9,8 @@ use Rattle.ground.proofs.Tests.{says, denies}
 use Rattle.ground.proofs.Members.{mem_index}
 use Rattle.prefix.specs.declared.Prefix.{Prefix}
 use Rattle.prefix.specs.Prefixes.{Before}
-use Rattle.prefix.specs.Routes.{Route, with_route, other, without}
+use Rattle.prefix.specs.declared.Route.{Route}
+use Rattle.prefix.specs.Routes.{with_route, other, without}
 use Rattle.prefix.proofs.Changes.{with_before, with_there, with_after, keep_cases, other?, without_absent}
 use Rattle.rules.specs.Words.{prefix_of, route_of, word_of}
 use Rattle.rules.specs.inner.Places.{prefix_at}

@@ -10,7 +10,8 @@ use lib.ListN.{length, get_or, drop, replicate, length-append, length-map, lengt
 use lib.Seq.{get_or-drop, ext_get_or}
 use Rattle.prefix.specs.declared.Prefix.{Prefix}
 use Rattle.prefix.specs.Prefixes.{Encloses}
-use Rattle.prefix.specs.Routes.{Route, IsRoute, AllRoutes, Ascending}
+use Rattle.prefix.specs.declared.Route.{Route}
+use Rattle.prefix.specs.Routes.{IsRoute, AllRoutes, Ascending}
 use Rattle.rules.specs.Words.{route_of, word_of, IsRule}
 use Rattle.rules.specs.Rules.{live_words, routes, words_of, Formed}
 use Rattle.rules.proofs.Words.{word_route, route_word, some_route}

@@ -15,7 +15,7 @@ use Rattle.ground.proofs.Cases.{by_lt, by_cmp}
 use Rattle.ground.proofs.Tests.{eqb?, iff?, stops, same_test}
 use Rattle.prefix.specs.declared.Prefix.{Prefix}
 use Rattle.prefix.specs.Prefixes.{WellFormed}
-use Rattle.prefix.specs.Routes.{Route}
+use Rattle.prefix.specs.declared.Route.{Route}
 use Rattle.rules.specs.Words.{prefix_of, route_of, key_of}
 use Rattle.rules.specs.Rules.{routes}
 use Rattle.rules.specs.inner.Places.{Listed, prefix_at, key_at, PositionIs, Bracket, PlaceIs}

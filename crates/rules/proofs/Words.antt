@@ -10,7 +10,8 @@ use Rattle.ground.proofs.Tests.{Decides, eqb?, and?, iff?, says, same_test}
 use Rattle.prefix.specs.declared.Prefix.{Prefix}
 use Rattle.prefix.specs.Prefixes.{span, cleared_of, Before}
 use Rattle.prefix.specs.Geometry.{Territory}
-use Rattle.prefix.specs.Routes.{Route, last_hop, IsRoute}
+use Rattle.prefix.specs.declared.Route.{Route}
+use Rattle.prefix.specs.Routes.{last_hop, IsRoute}
 use Rattle.prefix.proofs.Prefixes.{contains?, encloses?, clear?, cleared?}
 use Rattle.prefix.proofs.Order.{key, key_order, same_key}
 use Rattle.prefix.proofs.Best.{is_route?}

@@ -4,7 +4,8 @@ use Rattle.std.specs.Prelude.{◌≡◌, ℕ, ◌-◌, ◌≤◌, Bool, true, fa
 use mathlib.Core.List.{List, [], ◌∷◌, ◌++◌, map, Memᴰ as Mem}
 use Rattle.prefix.specs.declared.Prefix.{Prefix}
 use Rattle.prefix.specs.Prefixes.{before, same_prefix}
-use Rattle.prefix.specs.Routes.{Route, Ascending}
+use Rattle.prefix.specs.declared.Route.{Route}
+use Rattle.prefix.specs.Routes.{Ascending}
 use Rattle.rules.specs.Words.{prefix_of, route_of, word_of, is_rule, IsRule}
 
 -- the live words: those before the first 0

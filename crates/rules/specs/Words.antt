@@ -3,7 +3,8 @@
 use Rattle.std.specs.Prelude.{ℕ, ◌+◌, ◌*◌, ◌/◌, ◌%◌, ◌^◌, Bool, ◌&&◌}
 use Rattle.prefix.specs.declared.Prefix.{Prefix}
 use Rattle.prefix.specs.Prefixes.{encloses, Encloses}
-use Rattle.prefix.specs.Routes.{Route, is_route, IsRoute}
+use Rattle.prefix.specs.declared.Route.{Route}
+use Rattle.prefix.specs.Routes.{is_route, IsRoute}
 
 -- the route that a word stands for
 unfoldable pub route_of : ℕ → Route

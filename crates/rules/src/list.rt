@@ -2,13 +2,12 @@
 ghost use Rattle.std.specs.Prelude.{◌≡◌, true, false, ◌≤◌, ◌<◌, length, is_ok};
 ghost use Rattle.prefix.specs.Prefixes.{WellFormed};
 ghost use Rattle.prefix.specs.Routes.{IsRoute, with_route, without};
-ghost use Rattle.rules.specs.Words.{route_by};
 ghost use Rattle.rules.specs.Rules.{routes, words_of};
 ghost use Rattle.rules.specs.inner.Places.{Listed, Bracket, PositionIs, PlaceIs, index_of, inserted_at, removed_at};
 
 use crate::live::Live;
 use crate::word::Rule;
-use prefix::Prefix;
+use prefix::{Prefix, Route};
 
 impl<'a> Live<'a> {
     // The first index whose key is at least `key`, or how many words there are, known to be in from..=to.
@@ -84,16 +83,16 @@ fn remove_at(rules: &mut [u64], used: usize, at: usize)
     rules[used - 1] = 0;
 }
 
-// Makes a prefix live with a hop, at the place that `find` answered: in the place of its word if it is live, else between the others,
+// Makes a route live, at the place that `find` answered: in the place of its word if it is live, else between the others,
 // for which one word must be free.
-pub fn put(rules: &mut [u64], used: usize, place: Result<usize, usize>, prefix: Prefix, hop: u32)
+pub fn put(rules: &mut [u64], used: usize, place: Result<usize, usize>, route: Route)
     requires listed { Listed rules.old used }
-    requires place_is { PlaceIs rules.old used prefix (index_of place) (is_ok place) }
-    requires route { IsRoute (route_by prefix hop) }
+    requires place_is { PlaceIs rules.old used route.prefix (index_of place) (is_ok place) }
+    requires route { IsRoute route }
     requires room { is_ok place ≡ false → used < length rules.old }
-    ensures { rules.new ≡ words_of (length rules.old) (with_route (route_by prefix hop) (routes rules.old)) }
+    ensures { rules.new ≡ words_of (length rules.old) (with_route route (routes rules.old)) }
 {
-    let word = Rule::pack(prefix, hop);
+    let word = Rule::pack(route);
     match place {
         Ok(at) => rules[at] = word,
         Err(at) => insert_at(rules, used, at, word),

@@ -2,9 +2,9 @@
 ghost use Rattle.std.specs.Prelude.{◌≡◌, ◌≤◌};
 ghost use Rattle.prefix.specs.Geometry.{Territory};
 ghost use Rattle.prefix.specs.Routes.{IsRoute};
-ghost use Rattle.rules.specs.Words.{prefix_of, route_of, route_by, word_of, key_of, is_rule};
+ghost use Rattle.rules.specs.Words.{prefix_of, route_of, word_of, key_of, is_rule};
 
-use prefix::{LAST_HOP, Prefix, cleared};
+use prefix::{LAST_HOP, Prefix, Route, cleared};
 
 // The kind of a rule word: its numbers and functions, on words that are plain u64.
 #[derive(Drop)]
@@ -16,12 +16,13 @@ impl Rule {
 
     const ADDRESS: u64 = 0x1_0000_0000;
 
-    // The word of a prefix and a hop.
-    pub fn pack(prefix: Prefix, hop: u32) -> u64
-        requires { IsRoute (route_by prefix hop) }
-        ensures { result ≡ word_of (route_by prefix hop) }
+    // The word of a route.
+    pub fn pack(route: Route) -> u64
+        requires { IsRoute route }
+        ensures { result ≡ word_of route }
     {
-        prefix.address as u64 * Rule::ADDRESS + prefix.length as u64 * Rule::LENGTH + hop as u64
+        let prefix = route.prefix;
+        prefix.address as u64 * Rule::ADDRESS + prefix.length as u64 * Rule::LENGTH + route.hop as u64
     }
 
     pub fn address(word: u64) -> u32

@@ -9,7 +9,8 @@ use lib.ListN.{get_or}
 use Rattle.ground.proofs.Cases.{by_lt}
 use Rattle.prefix.specs.declared.Prefix.{Prefix}
 use Rattle.prefix.specs.Prefixes.{span, Contains}
-use Rattle.prefix.specs.Routes.{Route, best, IsLongest, found}
+use Rattle.prefix.specs.declared.Route.{Route}
+use Rattle.prefix.specs.Routes.{best, IsLongest, found}
 use Rattle.prefix.proofs.Prefixes.{in_range_lem, by_range}
 use Rattle.prefix.proofs.Best.{best_none, is_best}
 use Rattle.cells.specs.Cells.{empty, pack, cell_of}

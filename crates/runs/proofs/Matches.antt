@@ -11,7 +11,8 @@ use lib.Pow.{pow_pos}
 use Rattle.ground.proofs.Cases.{by_lt}
 use Rattle.prefix.specs.declared.Prefix.{Prefix}
 use Rattle.prefix.specs.Prefixes.{span, top, cleared_of, WellFormed, Contains}
-use Rattle.prefix.specs.Routes.{Route, AllRoutes, IsLongest}
+use Rattle.prefix.specs.declared.Route.{Route}
+use Rattle.prefix.specs.Routes.{AllRoutes, IsLongest}
 use Rattle.prefix.proofs.Order.{key}
 use Rattle.prefix.proofs.Prefixes.{kept, nested, own, in_range_lem, by_range, same_prefix_lem}
 use Rattle.runs.specs.inner.Steps.{around}

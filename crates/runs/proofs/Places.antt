@@ -13,7 +13,8 @@ use Rattle.std.proofs.lemmas.Option.{get_or_from_slice_get, slice_get-get_or, sl
 use Rattle.ground.proofs.Cases.{by_lt}
 use Rattle.prefix.specs.declared.Prefix.{Prefix}
 use Rattle.prefix.specs.Prefixes.{Contains}
-use Rattle.prefix.specs.Routes.{Route, IsLongest}
+use Rattle.prefix.specs.declared.Route.{Route}
+use Rattle.prefix.specs.Routes.{IsLongest}
 use Rattle.prefix.proofs.Order.{key}
 use Rattle.rules.specs.Words.{prefix_of, route_of, key_of}
 use Rattle.rules.specs.Rules.{routes}

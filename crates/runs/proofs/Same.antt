@@ -7,7 +7,8 @@ use Prim.Native.Nat.{ℕ, ◌+◌, ◌≤◌, ◌<◌}
 use native.Mathlib.Nat.{le_trans, lt_of_le_of_lt}
 use Rattle.ground.proofs.Tests.{iff?, same_test}
 use Rattle.prefix.specs.Prefixes.{span, Contains}
-use Rattle.prefix.specs.Routes.{Route, best, AllRoutes, IsLongest}
+use Rattle.prefix.specs.declared.Route.{Route}
+use Rattle.prefix.specs.Routes.{best, AllRoutes, IsLongest}
 use Rattle.prefix.proofs.Prefixes.{contains?, nested, in_range_lem, by_range}
 use Rattle.prefix.proofs.Changes.{best_cong}
 

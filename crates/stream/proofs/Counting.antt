@@ -12,7 +12,8 @@ use Rattle.ground.specs.Lists.{differs}
 use Rattle.ground.proofs.Lists.{differs_small, differs-same, differs-other}
 use Rattle.ground.proofs.Sums.{sum_front}
 use Rattle.prefix.specs.declared.Prefix.{Prefix}
-use Rattle.prefix.specs.Routes.{Route, AllRoutes}
+use Rattle.prefix.specs.declared.Route.{Route}
+use Rattle.prefix.specs.Routes.{AllRoutes}
 use Rattle.rules.specs.Words.{word_of}
 use Rattle.rules.specs.Rules.{words_of}
 use Rattle.rules.proofs.Words.{some_route}

@@ -4,7 +4,7 @@ use mathlib.Core.Logic.{◌⊎◌}
 use mathlib.Core.List.{List}
 use Prim.Native.Nat.{ℕ, ◌≤◌}
 use Rattle.ground.proofs.Tests.{leb?, eqb?, and?, or?, not?, cond_on, cond_off}
-use Rattle.prefix.specs.Routes.{Route}
+use Rattle.prefix.specs.declared.Route.{Route}
 use Rattle.cells.specs.Cells.{empty, length_of}
 use Rattle.tables.specs.Cellwise.{paint_cell, unpaint_cell}
 

@@ -5,7 +5,8 @@ use Rattle.ground.specs.Lists.{change_where}
 use Rattle.prefix.specs.declared.Prefix.{Prefix}
 use Rattle.prefix.specs.Prefixes.{contains}
 use Rattle.prefix.specs.Geometry.{block_size, block_start}
-use Rattle.prefix.specs.Routes.{Route, best}
+use Rattle.prefix.specs.declared.Route.{Route}
+use Rattle.prefix.specs.Routes.{best}
 use Rattle.cells.specs.Cells.{empty, length_of, point_to, is_pointer, cell_of}
 use Rattle.cells.specs.Memory.{Tables}
 

@@ -5,7 +5,8 @@ use Rattle.ground.specs.Lists.{change_where, differing}
 use Rattle.prefix.specs.declared.Prefix.{Prefix}
 use Rattle.prefix.specs.Geometry.{width, block_size, block_of, block_start}
 use Rattle.prefix.specs.Price.{is_open}
-use Rattle.prefix.specs.Routes.{Route, best}
+use Rattle.prefix.specs.declared.Route.{Route}
+use Rattle.prefix.specs.Routes.{best}
 use Rattle.cells.specs.Cells.{empty, point_to, segment_of, cell_of}
 use Rattle.cells.specs.Memory.{Tables, lowest_free, needs_segment}
 

@@ -16,7 +16,8 @@ use Rattle.ground.proofs.Tests.{Decides, leb?, eqb?, and?, not?, says}
 use Rattle.ground.proofs.Lists.{is_where, where_none, where_same, differing-refl}
 use Rattle.prefix.specs.declared.Prefix.{Prefix}
 use Rattle.prefix.specs.Geometry.{block_start}
-use Rattle.prefix.specs.Routes.{Route, best}
+use Rattle.prefix.specs.declared.Route.{Route}
+use Rattle.prefix.specs.Routes.{best}
 use Rattle.cells.specs.Cells.{empty, length_of, pointer_bit, cell_of}
 use Rattle.cells.specs.Memory.{Tables, tables_of}
 use Rattle.rules.specs.Rules.{routes}

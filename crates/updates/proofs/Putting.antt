@@ -10,7 +10,8 @@ use Rattle.ground.proofs.Cases.{by_lt}
 use Rattle.prefix.specs.declared.Prefix.{Prefix}
 use Rattle.prefix.specs.declared.geometry.Blocks.{Blocks}
 use Rattle.prefix.specs.Geometry.{block_of}
-use Rattle.prefix.specs.Routes.{Route, Change, named, is_change}
+use Rattle.prefix.specs.declared.Route.{Route}
+use Rattle.prefix.specs.Routes.{Change, named, is_change}
 use Rattle.prefix.proofs.Best.{is_route?}
 use Rattle.cells.specs.Cells.{pack, pointer_bit}
 use Rattle.cells.specs.Memory.{Tables, Lent, lowest_free, needs_segment}

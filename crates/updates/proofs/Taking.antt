@@ -39,7 +39,8 @@ use Rattle.tables.specs.Changes.{closes, closed_at, closed_for, changed, left, l
 use Rattle.ground.proofs.Members.{index_mem}
 use Rattle.rules.specs.Words.{route_of}
 use Rattle.rules.proofs.LiveWords.{live_at}
-use Rattle.prefix.specs.Routes.{without, Ascending, Route, keep, other, best}
+use Rattle.prefix.specs.declared.Route.{Route}
+use Rattle.prefix.specs.Routes.{without, Ascending, keep, other, best}
 use Rattle.rules.specs.Rules.{live_words, routes, Formed, words_of}
 
 -- ---- the rules that are left

@@ -1,7 +1,8 @@
 -- The lent memory after an accepted call, as one function of what it was. Assumes nothing.
 use Rattle.std.specs.Prelude.{List, length, replicate}
 use Rattle.prefix.specs.declared.Prefix.{Prefix}
-use Rattle.prefix.specs.Routes.{Route, Change, puts, takes, applied}
+use Rattle.prefix.specs.declared.Route.{Route}
+use Rattle.prefix.specs.Routes.{Change, puts, takes, applied}
 use Rattle.cells.specs.Cells.{pack}
 use Rattle.cells.specs.Memory.{Tables, Lent}
 use Rattle.rules.specs.Rules.{routes, words_of}

@@ -5,7 +5,6 @@
 ghost use Rattle.std.specs.Prelude.{◌≡◌};
 ghost use Rattle.ground.specs.Refusals.{code_of};
 ghost use Rattle.cells.specs.Memory.{lent_of};
-ghost use Rattle.rules.specs.Words.{route_by};
 ghost use Rattle.refusals.specs.Codes.{announces, withdraws, re_homes};
 ghost use Rattle.updates.specs.Calls.{reported, report_of, step, clear};
 
@@ -14,7 +13,7 @@ mod take;
 
 use cells::lent::Lent;
 use ground::refusal::Refusal;
-use prefix::Prefix;
+use prefix::{Prefix, Route};
 use refusals::codes;
 
 // What an update reports, as C gets it: 0 and the number of cells that it changed, or a refusal's number and 0.
@@ -72,11 +71,10 @@ pub fn announce(
     owners: &mut [u32],
     rules: &mut [u64],
     territory: Prefix,
-    prefix: Prefix,
-    hop: u32,
+    route: Route,
 ) -> Result<u32, Refusal>
     ensures { reported (report_of result) (lent_of first.new long.new owners.new rules.new)
-        ≡ step territory (announces (route_by prefix hop)) (lent_of first.old long.old owners.old rules.old) }
+        ≡ step territory (announces route) (lent_of first.old long.old owners.old rules.old) }
 {
     let lent = Lent {
         first,
@@ -84,8 +82,8 @@ pub fn announce(
         owners,
         rules,
     };
-    let checked = codes::announce_checked(lent, territory, prefix, hop)?;
-    let cells = put::put_checked(first, long, owners, rules, territory, prefix, hop, checked);
+    let checked = codes::announce_checked(lent, territory, route)?;
+    let cells = put::put_checked(first, long, owners, rules, territory, route, checked);
     Ok(cells)
 }
 
@@ -96,11 +94,10 @@ pub fn re_home(
     owners: &mut [u32],
     rules: &mut [u64],
     territory: Prefix,
-    prefix: Prefix,
-    hop: u32,
+    route: Route,
 ) -> Result<u32, Refusal>
     ensures { reported (report_of result) (lent_of first.new long.new owners.new rules.new)
-        ≡ step territory (re_homes (route_by prefix hop)) (lent_of first.old long.old owners.old rules.old) }
+        ≡ step territory (re_homes route) (lent_of first.old long.old owners.old rules.old) }
 {
     let lent = Lent {
         first,
@@ -108,8 +105,8 @@ pub fn re_home(
         owners,
         rules,
     };
-    let checked = codes::re_home_checked(lent, territory, prefix, hop)?;
-    let cells = put::put_checked(first, long, owners, rules, territory, prefix, hop, checked);
+    let checked = codes::re_home_checked(lent, territory, route)?;
+    let cells = put::put_checked(first, long, owners, rules, territory, route, checked);
     Ok(cells)
 }
 

@@ -3,14 +3,13 @@
 ghost use Rattle.std.specs.Prelude.{◌≡◌};
 ghost use Rattle.prefix.specs.Routes.{puts};
 ghost use Rattle.cells.specs.Memory.{lent_of, tables_of};
-ghost use Rattle.rules.specs.Words.{route_by};
 ghost use Rattle.tables.specs.Changes.{left, leaves};
 ghost use Rattle.updates.specs.Calls.{reported, accepted};
 ghost use Rattle.updates.specs.Effects.{painted, effect};
 ghost use Rattle.updates.specs.inner.Steps.{Paintable, Puttable};
 
 use cells::cell::Cell;
-use prefix::Prefix;
+use prefix::{Prefix, Route};
 use prefix::geometry::Blocks;
 use refusals::codes::Checked;
 use rules::list;
@@ -23,28 +22,27 @@ fn paint_route(
     long: &mut [u32],
     owners: &mut [u32],
     territory: Prefix,
-    prefix: Prefix,
-    hop: u32,
+    route: Route,
     blocks: Blocks,
     opens: Option<usize>,
 ) -> u32
-    requires { Paintable territory (route_by prefix hop) blocks opens (tables_of first.old long.old owners.old) }
+    requires { Paintable territory route blocks opens (tables_of first.old long.old owners.old) }
     ensures { left result (tables_of first.new long.new owners.new)
-        ≡ leaves (painted territory (route_by prefix hop)) (tables_of first.old long.old owners.old) }
+        ≡ leaves (painted territory route) (tables_of first.old long.old owners.old) }
 {
-    let new = Cell::pack(hop, prefix.length);
+    let new = Cell::pack(route.hop, route.prefix.length);
     match opens {
         Some(segment) => fill::open_and_paint(
             first,
             long,
             owners,
             territory,
-            prefix,
+            route.prefix,
             blocks.from,
             segment,
             new,
         ),
-        None => paint::paint(first, long, owners, territory, prefix, blocks, new),
+        None => paint::paint(first, long, owners, territory, route.prefix, blocks, new),
     }
 }
 
@@ -55,25 +53,23 @@ pub fn put_checked(
     owners: &mut [u32],
     rules: &mut [u64],
     territory: Prefix,
-    prefix: Prefix,
-    hop: u32,
+    route: Route,
     checked: Checked,
 ) -> u32
-    requires { Puttable territory (route_by prefix hop) checked (lent_of first.old long.old owners.old rules.old) }
+    requires { Puttable territory route checked (lent_of first.old long.old owners.old rules.old) }
     ensures { reported (record { code = 0; cells = result }) (lent_of first.new long.new owners.new rules.new)
         ≡ accepted (lent_of first.old long.old owners.old rules.old)
-        (effect territory (puts (route_by prefix hop)) (lent_of first.old long.old owners.old rules.old)) }
+        (effect territory (puts route) (lent_of first.old long.old owners.old rules.old)) }
 {
     let cells = paint_route(
         first,
         long,
         owners,
         territory,
-        prefix,
-        hop,
+        route,
         checked.blocks,
         checked.segment,
     );
-    list::put(rules, checked.used, checked.place, prefix, hop);
+    list::put(rules, checked.used, checked.place, route);
     cells
 }

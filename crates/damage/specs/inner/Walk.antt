@@ -5,7 +5,7 @@ use Rattle.rules.specs.inner.Blocks.{CursorAt}
 use Rattle.prefix.specs.declared.Prefix.{Prefix}
 use Rattle.prefix.specs.declared.geometry.Blocks.{Blocks}
 use Rattle.prefix.specs.Geometry.{block_start}
-use Rattle.prefix.specs.Routes.{Route}
+use Rattle.prefix.specs.declared.Route.{Route}
 use Rattle.cells.specs.Memory.{Tables, Sized}
 use Rattle.damage.specs.Damage.{is_clean, block_sound}
 

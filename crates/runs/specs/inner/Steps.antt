@@ -3,7 +3,7 @@ use Rattle.std.specs.Prelude.{◌≡◌, ℕ, ◌+◌, ◌-◌, ◌^◌, ◌≤�
 use mathlib.Core.List.{List, Memᴰ as Mem}
 use Rattle.prefix.specs.declared.Prefix.{Prefix}
 use Rattle.prefix.specs.Prefixes.{top, cleared_of, Contains}
-use Rattle.prefix.specs.Routes.{Route}
+use Rattle.prefix.specs.declared.Route.{Route}
 use Rattle.rules.specs.Words.{key_of}
 use Rattle.rules.specs.inner.Places.{prefix_at, PositionIs}
 

@@ -3,7 +3,8 @@ use Rattle.std.specs.Prelude.{◌≡◌, ℕ, ◌<◌, true, false, Option, is_o
 use Rattle.prefix.specs.declared.Prefix.{Prefix}
 use Rattle.prefix.specs.declared.geometry.Blocks.{Blocks}
 use Rattle.prefix.specs.Geometry.{touched}
-use Rattle.prefix.specs.Routes.{Route, IsRoute}
+use Rattle.prefix.specs.declared.Route.{Route}
+use Rattle.prefix.specs.Routes.{IsRoute}
 use Rattle.cells.specs.Memory.{Tables, Lent, no_zero, needs_segment}
 use Rattle.rules.specs.Rules.{Formed}
 use Rattle.rules.specs.inner.Places.{Listed, PlaceIs, index_of}

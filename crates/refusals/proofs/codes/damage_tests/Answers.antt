@@ -6,7 +6,7 @@ use lib.ListN.{length, take}
 use Rattle.ground.proofs.Tests.{passes, stops, if_so, if_not, says, denies}
 use Rattle.prefix.specs.declared.geometry.Blocks.{Blocks}
 use Rattle.prefix.specs.Geometry.{touched}
-use Rattle.prefix.specs.Routes.{Route}
+use Rattle.prefix.specs.declared.Route.{Route}
 use Rattle.prefix.proofs.Spans.{past_base}
 use Rattle.cells.specs.Memory.{held}
 use Rattle.rules.specs.Rules.{routes, Formed}

@@ -6,11 +6,11 @@ use Rattle.prefix.proofs.Prefixes.{well_formed?}
 use Rattle.prefix.proofs.Best.{is_route?}
 use Rattle.refusals.proofs.codes.is_route.Goals as goal
 
-pub returns-then-hop-lt1 : goal.returns-then-hop-lt1
-returns-then-hop-lt1 c = sym (stops (is_route? _) (λ r. omega (arith, r.some_hop)))
+pub returns-then-route-lt1 : goal.returns-then-route-lt1
+returns-then-route-lt1 c = sym (stops (is_route? _) (λ r. omega (arith, r.some_hop)))
 
-pub returns-then-hop-gt-LAST_HOP : goal.returns-then-hop-gt-LAST_HOP
-returns-then-hop-gt-LAST_HOP c = sym (stops (is_route? _) (λ r. omega (arith, r.hop_fits)))
+pub returns-then-route-gt-LAST_HOP : goal.returns-then-route-gt-LAST_HOP
+returns-then-route-gt-LAST_HOP c = sym (stops (is_route? _) (λ r. omega (arith, r.hop_fits)))
 
 pub returns : goal.returns
 returns c =

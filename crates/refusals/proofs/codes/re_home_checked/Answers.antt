@@ -3,7 +3,6 @@ use mathlib.Core.Path.{refl, sym, ◌∙◌}
 use Rattle.ground.proofs.Tests.{says}
 use Rattle.prefix.specs.Routes.{puts, is_change}
 use Rattle.prefix.proofs.Best.{is_route?}
-use Rattle.rules.specs.Words.{route_by}
 use Rattle.refusals.specs.Codes.{code}
 use Rattle.refusals.proofs.codes.re_home_checked.Goals as goal
 
@@ -14,4 +13,4 @@ pub returns : goal.returns
 unfolding code is_change
 returns c =
     let s = c.args in
-    c.live_tests.ensures (puts (route_by s.prefix s.hop)) (record { names = refl; numbers = c.is_route.ensures })
+    c.live_tests.ensures (puts s.route) (record { names = refl; numbers = c.is_route.ensures })

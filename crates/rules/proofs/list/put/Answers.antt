@@ -13,12 +13,12 @@ use Rattle.rules.proofs.list.put.Goals.{In-Ok, In-Err}
 use Rattle.rules.proofs.list.put.Goals as goal
 
 -- what is known of the place of a live prefix, and of one that is not live
-live_at : (c : In-Ok) → PlaceIs c.args.rules.now c.args.used c.args.prefix c.in-Ok.at true
-live_at c = subst (λ (x : Result ℕ ℕ). PlaceIs c.args.rules.now c.args.used c.args.prefix (index_of x) (is_ok x)) c.in-Ok.is c.requires.place_is
+live_at : (c : In-Ok) → PlaceIs c.args.rules.now c.args.used c.args.route.prefix c.in-Ok.at true
+live_at c = subst (λ (x : Result ℕ ℕ). PlaceIs c.args.rules.now c.args.used c.args.route.prefix (index_of x) (is_ok x)) c.in-Ok.is c.requires.place_is
 
-new_at : (c : In-Err) → PlaceIs c.args.rules.now c.args.used c.args.prefix c.in-Err.at false × (c.args.used < length c.args.rules.now)
+new_at : (c : In-Err) → PlaceIs c.args.rules.now c.args.used c.args.route.prefix c.in-Err.at false × (c.args.used < length c.args.rules.now)
 new_at c = (
-  subst (λ (x : Result ℕ ℕ). PlaceIs c.args.rules.now c.args.used c.args.prefix (index_of x) (is_ok x)) c.in-Err.is c.requires.place_is,
+  subst (λ (x : Result ℕ ℕ). PlaceIs c.args.rules.now c.args.used c.args.route.prefix (index_of x) (is_ok x)) c.in-Err.is c.requires.place_is,
   c.requires.room (ap is_ok c.in-Err.is),
 )
 
@@ -35,7 +35,7 @@ bounds-rules-at c =
 pub returns-in-Ok : goal.returns-in-Ok
 returns-in-Ok c =
     ap (λ (x : ℕ). set c.args.rules.now c.in-Ok.at x) c.pack-word.ensures
-    ∙ put_same c.requires.listed c.requires.route.formed (live_at c) c.args.hop refl
+    ∙ put_same c.requires.listed c.requires.route.formed (live_at c) c.args.route.hop refl
 
 pub insert_at-requires : goal.insert_at-requires
 insert_at-requires c =
@@ -47,4 +47,4 @@ returns-in-Err c =
     let place = new_at (goal.at.returns-in-Err c).In-Err in
     c.insert_at.ensures
     ∙ ap (inserted_at c.args.rules.now c.args.used c.in-Err.at) c.pack-word.ensures
-    ∙ put_new c.requires.listed c.requires.route.formed place.0 c.args.hop refl place.1
+    ∙ put_new c.requires.listed c.requires.route.formed place.0 c.args.route.hop refl place.1

@@ -4,7 +4,6 @@ use mathlib.Core.Path.{ap}
 use native.Mathlib.Omega.{arith}
 use Rattle.prefix.specs.declared.geometry.Blocks.{Blocks}
 use Rattle.cells.specs.Memory.{tables_of}
-use Rattle.rules.specs.Words.{route_by}
 use Rattle.updates.proofs.Putting.{opens_at, opens_none, openable, repaintable, painted-opened, painted_direct}
 use Rattle.updates.proofs.put.paint_route.Goals as goal
 
@@ -20,7 +19,7 @@ pub returns-in-Some : goal.returns-in-Some
 returns-in-Some c =
     let P = c.requires in
     let o = opens_at P c.in-Some.is in
-    painted-opened c.args.territory (route_by c.args.prefix c.args.hop) (tables_of c.args.first.now c.args.long.now c.args.owners.now) o.0 (ap (λ (x : Blocks). x.from) P.touches)
+    painted-opened c.args.territory c.args.route (tables_of c.args.first.now c.args.long.now c.args.owners.now) o.0 (ap (λ (x : Blocks). x.from) P.touches)
     o.1 c.pack-new.ensures c.open_and_paint.ensures
 
 pub paint-requires : goal.paint-requires
@@ -30,4 +29,4 @@ paint-requires c =
 
 pub returns-in-None : goal.returns-in-None
 returns-in-None c =
-    painted_direct c.args.territory (route_by c.args.prefix c.args.hop) (tables_of c.args.first.now c.args.long.now c.args.owners.now) (opens_none c.requires c.in-None.is) c.pack-new.ensures c.paint.ensures
+    painted_direct c.args.territory c.args.route (tables_of c.args.first.now c.args.long.now c.args.owners.now) (opens_none c.requires c.in-None.is) c.pack-new.ensures c.paint.ensures

@@ -2,7 +2,6 @@
 -- they are. Assumes nothing.
 use Rattle.prefix.specs.Routes.{puts}
 use Rattle.cells.specs.Memory.{lent_of}
-use Rattle.rules.specs.Words.{route_by}
 use Rattle.updates.specs.Effects.{retabled}
 use Rattle.updates.proofs.Outcomes.{accepts}
 use Rattle.updates.proofs.put.put_checked.Goals as goal
@@ -18,4 +17,4 @@ put-requires c =
 pub returns : goal.returns
 unfolding retabled
 returns c =
-    accepts c.args.territory (puts (route_by c.args.prefix c.args.hop)) (lent_of c.args.first.now c.args.long.now c.args.owners.now c.args.rules.now) c.paint_route-cells.ensures c.put.ensures
+    accepts c.args.territory (puts c.args.route) (lent_of c.args.first.now c.args.long.now c.args.owners.now c.args.rules.now) c.paint_route-cells.ensures c.put.ensures

@@ -6,7 +6,8 @@ use Prim.Native.Nat.{ℕ, ◌-◌}
 use native.Mathlib.Omega.{arith}
 use lib.Seq.{length-take-le}
 use Rattle.std.proofs.Common.{Result, is_ok}
-use Rattle.prefix.specs.Routes.{Route, takes}
+use Rattle.prefix.specs.declared.Route.{Route}
+use Rattle.prefix.specs.Routes.{takes}
 use Rattle.cells.specs.Memory.{lent_of}
 use Rattle.rules.specs.inner.Places.{Listed, PlaceIs, index_of}
 use Rattle.rules.proofs.Indices.{listed_within}

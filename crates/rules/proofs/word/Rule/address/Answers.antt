@@ -1,6 +1,6 @@
 -- `Rule::address` meets its contract, by the layout of a word. Assumes nothing.
 use mathlib.Core.Path.{ap}
-use Rattle.prefix.specs.Routes.{Route}
+use Rattle.prefix.specs.declared.Route.{Route}
 use Rattle.rules.proofs.Words.{route_is}
 use Rattle.rules.proofs.word.Rule.address.Goals as goal
 

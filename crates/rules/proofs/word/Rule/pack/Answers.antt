@@ -3,4 +3,4 @@ use Rattle.rules.proofs.Words.{word_is}
 use Rattle.rules.proofs.word.Rule.pack.Goals as goal
 
 pub returns : goal.returns
-returns c = word_is c.args.prefix c.args.hop
+returns c = word_is c.args.route.prefix c.args.route.hop
