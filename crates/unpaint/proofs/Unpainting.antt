@@ -3,8 +3,8 @@
 use mathlib.Core.Path.{◌≡◌, refl, sym, ap, subst, ◌∙◌}
 use mathlib.Core.Bool.{Bool, true, false, cond, not, ◌&&◌}
 use mathlib.Core.List.{List}
-use Prim.Native.Nat.{ℕ, ◌+◌, ◌-◌, ◌/◌, ◌^◌, ◌≤◌, ◌<◌}
-use native.Mathlib.Nat.{le_refl, le_antisymm, add-zero}
+use Prim.Native.Nat.{ℕ, ◌+◌, ◌-◌, ◌≤◌, ◌<◌}
+use native.Mathlib.Nat.{le_refl, add-zero}
 use native.Mathlib.Omega.{arith}
 use lib.Dec.{eqb}
 use lib.ListN.{length, get_or}
@@ -17,7 +17,7 @@ use Rattle.ground.proofs.Lists.{is_where, where_none, where_same, differing-refl
 use Rattle.prefix.specs.declared.Prefix.{Prefix}
 use Rattle.prefix.specs.Geometry.{block_start}
 use Rattle.prefix.specs.Routes.{Route, best}
-use Rattle.cells.specs.Cells.{empty, length_of, pointer_bit, is_pointer, cell_of}
+use Rattle.cells.specs.Cells.{empty, length_of, pointer_bit, cell_of}
 use Rattle.cells.specs.Memory.{Tables, tables_of}
 use Rattle.rules.specs.Rules.{routes}
 use Rattle.runs.specs.declared.Run.{Run}
