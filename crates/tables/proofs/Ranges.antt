@@ -13,7 +13,7 @@ use borrow.Author.Rules.{rules}
 use Rattle.std.proofs.lemmas.List.{places, set-append_left, set-append_right}
 use Rattle.ground.specs.Lists.{differs}
 use Rattle.ground.proofs.Tests.{Decides, leb?, ltb?, and?, by_test}
-use Rattle.ground.proofs.Lists.{where_none, where_one, where_cong, where_then, length_where, differs_small, differing-refl, differing-le, differing_one, differing_then}
+use Rattle.ground.proofs.Lists.{where_none, where_one, where_cong, where_then, length_where, differing-refl, differing-le, differing_one, differing_then}
 use Rattle.tables.specs.inner.Ranges.{in_range, Within, RunChanged}
 
 pub in_range? : (from to i : ℕ) → Decides ((from ≤ i) × (i < to)) (in_range from to i)

@@ -30,7 +30,7 @@ fn stays(cell: u32, length: u32) -> bool
     ensures { result ≡ stays length cell }
 {
     let own = Cell::length(cell);
-    cell == Cell::EMPTY || own != length
+    own != length || cell == Cell::EMPTY
 }
 
 // The new cell in the place of one that does not stay.
@@ -41,7 +41,9 @@ fn replaced(old: u32, new: u32, length: u32) -> u32
     if stays(old, length) { old } else { new }
 }
 
-// Passes over those of the cells from..to that pass the test, up to the first that does not.
+// Passes over those of the cells from..to that pass the test, up to the first that does not. It stays a call, so that its loop counts
+// nothing but cells.
+#[inline(never)]
 fn pass_over<F: Fn(u32) -> bool>(cells: &[u32], from: usize, to: usize, passes: F) -> Option<usize>
     requires inside { Inside from to cells.now }
     requires callable { F.IsAlwaysCallable passes }
@@ -83,7 +85,7 @@ fn unpaint_run(
 {
     let mut changed = 0;
     let mut next = part.start;
-    while let Some(i) = pass_over(cells, next, part.end, |cell| stays(cell, length)) {
+    while let Some(i) = pass_over(cells, next, part.end, move |cell| stays(cell, length)) {
         let address = start + (i - part.start) as u32;
         go_on(live, address, run);
         let end = i + (part.end - i).min((run.end - address as u64) as usize);
@@ -176,7 +178,7 @@ fn unpaint_blocks(
 {
     let mut changed = 0;
     let mut next = from;
-    while let Some(block) = pass_over(first, next, to, |cell| passed(cell, length)) {
+    while let Some(block) = pass_over(first, next, to, move |cell| passed(cell, length)) {
         let (some, stop) = unpaint_some(
             first, long, owners, live, territory, block, to, length, run,
         );

@@ -1,6 +1,6 @@
 -- `change::change_run` meets its contract. The loop's invariant: the cells of the run before this one are changed, whatever function the rule
 -- computes, and no more differ than there are. Assumes nothing.
-use Prim.Native.Nat.{ℕ, ◌≤◌, ◌<◌}
+use Prim.Native.Nat.{ℕ, ◌≤◌}
 use mathlib.Core.Path.{◌≡◌}
 use Rattle.tables.proofs.Ranges.{PartChanged}
 use Rattle.tables.proofs.change.change_run.Given as goal

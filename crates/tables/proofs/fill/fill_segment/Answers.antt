@@ -1,9 +1,5 @@
 -- `fill::fill_segment` meets its contract: three runs, one after another, are the segment. Assumes nothing.
-use native.Mathlib.Omega.{arith}
 use borrow.Author.Rules.{rules}
-use Rattle.tables.specs.inner.Ranges.{RunChanged, two_values}
-use Rattle.prefix.specs.Geometry.{block_size}
-use Rattle.tables.proofs.Ranges.{run_small}
 use Rattle.tables.proofs.Filling.{filled_in_three}
 use Rattle.tables.proofs.fill.fill_segment.Goals as goal
 
