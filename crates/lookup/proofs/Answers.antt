@@ -1,17 +1,17 @@
--- What a cell of the first table says, one law for each case; and what an answer of look up can be, so that the one number that holds its
+-- What a cell of the first table says where it is no pointer; and what an answer of look up can be, so that the one number that holds its
 -- code, its length and its hop tells them. Assumes nothing.
-use mathlib.Core.Path.{◌≡◌, refl, sym, ap, ap₂, ◌∙◌}
+use mathlib.Core.Path.{◌≡◌, refl, ap, ap₂, ◌∙◌}
 use mathlib.Core.Bool.{Bool, true, false, cond}
 use mathlib.Core.List.{List, map}
 use Rattle.std.proofs.lemmas.List.{map-id}
-use Prim.Native.Nat.{ℕ, ◌+◌, ◌*◌, ◌/◌, ◌%◌, ◌^◌, ◌≤◌, ◌<◌}
+use Prim.Native.Nat.{ℕ, ◌/◌, ◌%◌, ◌^◌, ◌≤◌, ◌<◌}
 use native.Mathlib.Omega.{arith}
 use lib.Dec.{ltb, eqb, lit≤, lit<}
-use lib.ListN.{length, get_or}
+use lib.ListN.{length}
 use Rattle.std.specs.Prelude.{Result, Ok, Err}
 use Rattle.ground.specs.declared.refusal.Refusal.{Refusal}
 use Rattle.ground.proofs.Refusals.{number_tells, number_some}
-use Rattle.ground.proofs.Tests.{Decides, holds, fails, leb?, ltb?, cond_on, cond_off}
+use Rattle.ground.proofs.Tests.{Decides, holds, fails, leb?, cond_off}
 use Rattle.prefix.specs.Routes.{last_hop}
 use Rattle.prefix.specs.declared.Prefix.{Prefix}
 use Rattle.prefix.specs.Prefixes.{contains}
@@ -25,30 +25,9 @@ use Rattle.lookup.specs.inner.Outcomes.{outcome_by, outcome_of}
 
 -- ---- what a cell of the first table says
 
-module _ (long : List ℕ) (low cell : ℕ) where
-  pub decides : (pointer_bit ≤ cell → ⊥) → says_of long low cell ≡ verdict_of width cell
-  unfolding says_of
-  decides n = cond_off _ _ (leb? pointer_bit cell) n
-
-  module _ (pointer : pointer_bit ≤ cell) where
-    pub hands_on : segment_of cell < length long / block_size
-        → says_of long low cell ≡ verdict_of 32 (get_or long (segment_of cell * block_size + low) 0)
-    unfolding says_of
-    hands_on h = cond_on _ _ (leb? pointer_bit cell) pointer ∙ cond_on _ _ (ltb? (segment_of cell) (length long / block_size)) h
-
-    pub not-lent : length long / block_size ≤ segment_of cell → says_of long low cell ≡ refused 4
-    unfolding says_of
-    not-lent h =
-        cond_on _ _ (leb? pointer_bit cell) pointer
-        ∙ cond_off _ _ (ltb? (segment_of cell) (length long / block_size)) (λ l. omega arith)
-
--- the same for an equal low byte
-pub by_low : (long : List ℕ) (low m cell n : ℕ) → n ≡ packed (says_of long low cell) → low ≡ m → n ≡ packed (says_of long m cell)
-by_low long low m cell n e h = e ∙ ap (λ (x : ℕ). packed (says_of long x cell)) h
-
--- a refusal's number with length 0 and hop 0 is that refusal
-pub as_refused : (r : Answer) (code : ℕ) → r.code ≡ code → r.length ≡ 0 → r.hop ≡ 0 → {s : Answer} → refused code ≡ s → r ≡ s
-as_refused r code c l h e = (λ i. record { code = c i; length = l i; hop = h i }) ∙ e
+pub decides : (long : List ℕ) (low cell : ℕ) → (pointer_bit ≤ cell → ⊥) → says_of long low cell ≡ verdict_of width cell
+unfolding says_of
+decides long low cell n = cond_off _ _ (leb? pointer_bit cell) n
 
 -- ---- what an answer can be
 
@@ -113,14 +92,13 @@ told_look first long t a =
 
 -- ---- an answer as one number
 
--- what has a number's three parts is the answer that it holds
-pub parts : (r : Answer) (n : ℕ) → r.code ≡ n / 2 ^ 22 → r.length ≡ n / 2 ^ 16 % 2 ^ 6 → r.hop ≡ n % 2 ^ 16 → r ≡ unpacked_of n
-parts r n c l h = λ i. record { code = c i; length = l i; hop = h i }
-
 -- the number tells the answer, and is no pointer
 pub unpacked : {r : Answer} {n : ℕ} → Told r → n ≡ packed r → unpacked_of n ≡ r
 unpacked {r} {n} T e =
-    sym (parts r n (omega (arith, T.length, T.hop)) (omega (arith, T.length, T.hop)) (omega (arith, T.length, T.hop)))
+    let code : n / 2 ^ 22 ≡ r.code = omega (arith, T.length, T.hop) in
+    let long : n / 2 ^ 16 % 2 ^ 6 ≡ r.length = omega (arith, T.length, T.hop) in
+    let low : n % 2 ^ 16 ≡ r.hop = omega (arith, T.length, T.hop) in
+    λ i. record { code = code i; length = long i; hop = low i }
 
 pub no_pointer : {r : Answer} → Told r → packed r < pointer_bit
 no_pointer T = omega (arith, T.code, T.length, T.hop)

@@ -28,11 +28,11 @@ pub record Stands (first long : ℕ) (t : Prefix) (a : ℕ) : Type 0 where
   pub inside : Contains t a
 
 module _ {first long : ℕ} {t : Prefix} {a : ℕ} (s : Stands first long t a) where
-  pub past_base : t.address ≤ a
+  past_base : t.address ≤ a
   past_base = (in_range_lem s.lent.territory.formed s.inside).0
 
   -- the first table has a cell for the block of the address
-  pub block_lent : block_of t a < first
+  block_lent : block_of t a < first
   block_lent = omega (arith, block_inside s.lent.territory s.inside, s.lent.a_cell_a_block)
 
 -- the block counted from the base on tells whether the address is inside
@@ -52,11 +52,6 @@ stands {first} {long} {t} {a} z = go (lent_to_read? first long t) (contains? t a
     go (holds l) (fails n) e = absurd (omega arith)
     go (fails n) d e = absurd (omega arith)
 
--- and back
-pub may_stand : {first long : ℕ} {t : Prefix} {a : ℕ} → Stands first long t a → standing_of first long t a ≡ 0
-unfolding standing_of
-may_stand {first} {long} {t} {a} s = cond_on _ _ (lent_to_read? first long t) s.lent ∙ cond_on _ _ (contains? t a) s.inside
-
 -- so where nothing is refused, the block of the address is there
 pub reads_past : (first long : ℕ) (t : Prefix) (a : ℕ) → standing_of first long t a ≡ 0 → t.address ≤ a
 reads_past first long t a z = past_base (stands z)
@@ -69,7 +64,7 @@ module _ {A : Type 0} (f : ℕ → A) (first long : ℕ) (t : Prefix) (a : ℕ) 
   pub goes_on_lem : Stands first long t a → x ≡ cond (lent_to_read first long t) (cond (contains t a) x (f 3)) (f 1)
   goes_on_lem s = sym (cond_on _ _ (lent_to_read? first long t) s.lent ∙ cond_on _ _ (contains? t a) s.inside)
 
-  pub stops_at : (code : ℕ) → code ≡ standing_of first long t a → (code ≡ 0 → ⊥)
+  stops_at : (code : ℕ) → code ≡ standing_of first long t a → (code ≡ 0 → ⊥)
       → f code ≡ cond (lent_to_read first long t) (cond (contains t a) x (f 3)) (f 1)
   unfolding standing_of
   stops_at code m n = ap f m ∙ go (lent_to_read first long t) (contains t a) (λ z. n (m ∙ z))

@@ -3,7 +3,7 @@ ghost use Rattle.std.specs.Prelude.{◌≡◌, ℕ, ◌<◌, ◌^◌, map};
 ghost use Rattle.std.specs.Int.{w32, from_le_bytes};
 ghost use Rattle.ground.specs.Refusals.{number, code_of};
 ghost use Rattle.prefix.specs.Geometry.{block_size};
-ghost use Rattle.lookup.specs.Lookup.{refused, found, packed, direct_or_damage, verdict_of, says_of, look_up, answer_of};
+ghost use Rattle.lookup.specs.Lookup.{refused, found, packed, unpacked_of, direct_or_damage, verdict_of, says_of, look_up, answer_of};
 ghost use Rattle.lookup.specs.inner.Standing.{standing_of};
 ghost use Rattle.lookup.specs.inner.Outcomes.{outcome_of};
 
@@ -70,15 +70,29 @@ impl Packed {
         length * Packed::LENGTH + hop
     }
 
+    // The number of a refusal in a number, or 0.
+    pub fn code(number: u32) -> u32
+        ensures { result ≡ (unpacked_of number).code }
+    {
+        number / Packed::CODE
+    }
+
+    // The hop in a number; that of a refusal is 0.
+    pub fn hop(number: u32) -> u32
+        ensures { result ≡ (unpacked_of number).hop }
+    {
+        number % Packed::LENGTH
+    }
+
     // What a number tells; look up refuses with no number beside these.
     #[tactic(auto, unfolding(crate::specs::inner::Outcomes::outcome_of, crate::specs::inner::Outcomes::outcome_by))]
     pub fn unpack(number: u32) -> Result<Won, Refusal>
         ensures { result ≡ outcome_of number }
     {
-        match number / Packed::CODE {
+        match Packed::code(number) {
             0 => Ok(Won {
                 length: number / Packed::LENGTH % Packed::LENGTHS,
-                hop: number % Packed::LENGTH,
+                hop: Packed::hop(number),
             }),
             1 => Err(Refusal::WrongSizes),
             3 => Err(Refusal::Outside),
