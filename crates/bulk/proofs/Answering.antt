@@ -55,12 +55,6 @@ module _ (first long : List ℕ) (t : Prefix) (addresses answers : List ℕ) whe
       by_test may_answer? (λ h. (h, ap (λ (y : Outcome). y.answers) (e ∙ cond_on _ _ may_answer? h)))
       (λ n. absurd (omega (arith, ap (λ (y : Outcome). y.code) (e ∙ cond_off _ _ may_answer? n))))
 
-  pub has_refused : {o : Outcome} → o ≡ all_of first long t addresses answers → (o.code ≡ 0 → ⊥) → (MayAnswer → ⊥) × (o.answers ≡ answers)
-  unfolding all_of
-  has_refused e m =
-      by_test may_answer? (λ h. absurd (m (ap (λ (y : Outcome). y.code) (e ∙ cond_on _ _ may_answer? h))))
-      (λ n. (n, ap (λ (y : Outcome). y.answers) (e ∙ cond_off _ _ may_answer? n)))
-
 -- ---- one address: what the passes make of it
 
 -- a first cell, fetched and then judged
