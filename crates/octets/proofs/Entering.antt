@@ -1,34 +1,29 @@
 -- What booking by an answer of look up answers and leaves, one law for each way out; and what an answer of look up names. Assumes nothing.
-use mathlib.Core.Path.{◌≡◌, refl, sym, ap, subst, ◌∙◌}
+use mathlib.Core.Path.{◌≡◌, refl, sym, ap, ap₂, subst, ◌∙◌}
 use mathlib.Core.Bool.{Bool, cond, ◌&&◌}
-use mathlib.Core.List.{List, ◌++◌, append-nil}
+use mathlib.Core.List.{List, map}
 use Prim.Native.Nat.{ℕ, ◌+◌, ◌≤◌, ◌<◌}
 use native.Mathlib.Omega.{arith}
 use lib.Dec.{eqb}
-use lib.ListN.{length, get_or, set, drop, replicate, length-set, drop_of_length-le}
+use lib.ListN.{length, get_or, set, replicate, length-set}
+use Rattle.std.proofs.lemmas.List.{map-id}
 use Rattle.ground.proofs.Tests.{Decides, holds, fails, leb?, eqb?, and?, iff?, stops, by_test, cond_on, cond_off}
 use Rattle.ground.proofs.Cases.{by_eq}
+use Rattle.prefix.specs.Routes.{last_hop}
 use Rattle.prefix.specs.declared.Prefix.{Prefix}
-use Rattle.lookup.specs.declared.look.Answer.{Answer}
-use Rattle.lookup.specs.Lookup.{look_up}
-use Rattle.lookup.proofs.Answers.{Told}
+use Rattle.lookup.specs.Lookup.{Answer, look_up, answer_of, packed, unpacked_of}
+use Rattle.lookup.specs.inner.Outcomes.{outcome_of}
+use Rattle.lookup.proofs.Answers.{Told, told_look, unpacked}
 use Rattle.octets.specs.Words.{word_count, most}
-use Rattle.octets.specs.Booking.{Outcome, refused, clear_octets, add_to, refusal_of, enter, book}
+use Rattle.octets.specs.Booking.{Outcome, refused, add_to, refusal_of, enter, book}
 use Rattle.octets.specs.Bookings.{names}
+use Rattle.octets.specs.inner.Numbers.{IsNumber}
 
 -- ---- clear
 
-pub not-cleared : (words : List ℕ) → (length words ≡ word_count → ⊥) → refused 1 words ≡ clear_octets words
-unfolding clear_octets
-not-cleared words n = sym (cond_off _ _ (eqb? (length words) word_count) n)
-
-pub all_cleared : (before words : List ℕ) → length before ≡ word_count → (i : ℕ) → i ≡ word_count → words ≡ replicate i 0 ++ drop i before
-    → record { code = 0; words = words } ≡ clear_octets before
-unfolding clear_octets
-all_cleared before words l i e h =
-    ap (λ (x : List ℕ). record { code = 0; words = x }) (h ∙ ap (λ (k : ℕ). replicate k 0 ++ drop k before) e
-    ∙ ap (λ (x : List ℕ). replicate word_count 0 ++ x) (drop_of_length-le before {i = word_count} (omega arith)) ∙ append-nil (replicate word_count 0))
-    ∙ sym (cond_on _ _ (eqb? (length before) word_count) l)
+-- as many zeros as there were words
+pub cleared : (words : List ℕ) → length words ≡ word_count → replicate {A = ℕ} (length words) 0 ≡ replicate word_count 0
+cleared words l = ap (λ (n : ℕ). replicate {A = ℕ} n 0) l
 
 -- ---- the ways out
 
@@ -113,3 +108,21 @@ enter_long r amount words e = ap (λ (x : Outcome). length x.words) e ∙ did_lo
 -- a record that is refused adds nothing, whatever word is asked for
 pub not_gained : (amount code : ℕ) → (code ≡ 0 → ⊥) → (asked : Bool) → cond (eqb code 0 && asked) amount 0 ≡ 0
 not_gained amount code n asked = ap (λ (t : Bool). cond (t && asked) amount 0) (stops (eqb? code 0) n)
+
+-- ---- the numbers of look up
+
+pub number_told : {r : Answer} {n : ℕ} → Told r → n ≡ packed r → IsNumber n
+number_told {r} T e =
+    record {
+      outcome = ap (λ (k : ℕ). answer_of (outcome_of k)) e ∙ T.outcome ∙ sym (unpacked T e);
+      hop = subst (λ (s : Answer). s.hop ≤ last_hop) (sym (unpacked T e)) T.hop;
+    }
+
+-- on words as they are lent
+pub is_number : (first long : List ℕ) (t : Prefix) (a n : ℕ) → n ≡ packed (look_up (map (λ k. k) first) (map (λ k. k) long) t a) → IsNumber n
+is_number first long t a n e = number_told (told_look _ _ t a) e
+
+pub unpacked_number : (first long : List ℕ) (t : Prefix) (a n : ℕ) → n ≡ packed (look_up (map (λ k. k) first) (map (λ k. k) long) t a)
+    → unpacked_of n ≡ look_up first long t a
+unpacked_number first long t a n e =
+    unpacked (told_look _ _ t a) e ∙ ap₂ (λ (f l : List ℕ). look_up f l t a) (map-id first) (map-id long)
