@@ -13,15 +13,15 @@ use lib.Seq.{drop-cons, take_all, take-suc-set, append_snoc, drop-set-lt}
 use Rattle.ground.proofs.Tests.{Decides, eqb?, and?, cond_on}
 use Rattle.prefix.specs.declared.Prefix.{Prefix}
 use Rattle.cells.specs.Memory.{lent_to_read}
-use Rattle.lookup.specs.Lookup.{unpacked_of}
+use Rattle.lookup.specs.Lookup.{Answer, unpacked_of}
 use Rattle.lookup.proofs.Answers.{told_look, unpacked}
 use Rattle.bulk.proofs.Answering.{MayAnswer, may_answer?}
 use Rattle.bulk.specs.All.{answer_of}
 use Rattle.octets.specs.Words.{word_count}
-use Rattle.octets.specs.Booking.{Outcome}
+use Rattle.octets.specs.Booking.{Outcome, enter, book}
 use Rattle.octets.specs.Many.{Booked, each, book_each, book_all}
 use Rattle.octets.specs.inner.Numbers.{AreNumbers, enter_number, enter_each}
-use Rattle.octets.proofs.Entering.{booked, did_enter, did_long, number_told}
+use Rattle.octets.proofs.Entering.{did_enter, did_long, number_told}
 
 -- ---- the loop
 
@@ -86,7 +86,7 @@ module _ {one : ℕ → ℕ → List ℕ → Outcome} {xs ns ws : List ℕ} wher
 module _ (first long : List ℕ) (t : Prefix) where
   by_answers : (xs ns words : List ℕ) → length words ≡ word_count
       → enter_each (map (answer_of first long t) xs) ns words ≡ book_each first long t xs ns words
-  unfolding each
+  unfolding each book
   by_answers [] ns words l = refl
   by_answers (a ∷ xs) [] words l = refl
   by_answers (a ∷ xs) (n ∷ ns) words l =
@@ -94,7 +94,7 @@ module _ (first long : List ℕ) (t : Prefix) where
       let more = did_long (did_enter (unpacked_of (answer_of first long t a)) n words) in
       ap (λ (b : Booked). record { codes = o.code ∷ b.codes; words = b.words }) (by_answers xs ns o.words (more ∙ l))
       ∙ ap (λ (q : Outcome). let b = book_each first long t xs ns q.words in record { codes = q.code ∷ b.codes; words = b.words })
-      (booked first long t a n words l (unpacked (told_look first long t a) refl) refl)
+      (ap (λ (r : Answer). enter r n words) (unpacked (told_look first long t a) refl) ∙ sym (cond_on _ _ (eqb? (length words) word_count) l))
 
 -- ---- the call, by what was tested
 
