@@ -4,14 +4,15 @@ use mathlib.Core.List.{List, map}
 use Prim.Native.Nat.{ℕ, ◌+◌, ◌-◌, ◌%◌, ◌^◌, ◌<◌}
 use native.Mathlib.Omega.{arith}
 use lib.Dec.{ltb, eqb}
-use mathlib.Core.Bool.{◌&&◌}
+use mathlib.Core.Bool.{Bool, cond, ◌&&◌}
 use lib.ListN.{length, get_or}
-use Rattle.ground.proofs.Lists.{pass_at, pass_then, pass_map}
-use Rattle.ground.proofs.Tests.{Decides, leb?, ltb?, eqb?, and?, by_test, cond_on, cond_off}
+use lib.Seq.{ext_get_or}
+use Rattle.std.proofs.lemmas.List.{length-map, get_or-map}
+use Rattle.ground.proofs.Tests.{Decides, leb?, ltb?, eqb?, and?, passes, by_test, cond_on, cond_off}
 use Rattle.prefix.specs.declared.Prefix.{Prefix}
 use Rattle.prefix.specs.Prefixes.{Contains}
 use Rattle.prefix.proofs.Prefixes.{contains?, own}
-use Rattle.prefix.proofs.Spans.{some_block}
+use Rattle.prefix.proofs.Spans.{few_blocks, some_block}
 use Rattle.prefix.proofs.Inside.{block_from_lem, inside?}
 use Rattle.cells.specs.Cells.{pointer_bit}
 use Rattle.cells.specs.Memory.{lent_to_read}
@@ -19,16 +20,24 @@ use Rattle.lookup.specs.Lookup.{refused, says_of, look_up, packed}
 use Rattle.lookup.specs.inner.Standing.{standing_of}
 use Rattle.prefix.specs.Geometry.{block_size, block_of, block_from}
 use Rattle.cells.proofs.Lending.{LentToRead, lent_to_read?}
-use Rattle.lookup.proofs.Reading.{may_stand, goes_on_lem}
-use Rattle.lookup.proofs.Answers.{decides}
+use Rattle.lookup.proofs.Reading.{stands, goes_on_lem}
+use Rattle.lookup.proofs.Answers.{decides, told_says, no_pointer}
 use Rattle.bulk.specs.All.{Outcome, answer_of, all_of}
-use Rattle.bulk.specs.inner.Passes.{place_of, fetched_of, verdict_or_marked, judged_of, placed_all, fetched_all, judged_all}
+use Rattle.bulk.specs.inner.Passes.{place_of, fetched_of, verdict_or_marked, judged_of}
 
 -- ---- what was tested
 
--- the territory's own address stands where what is lent is right
-pub not-lent : (first long : ℕ) (t : Prefix) → (standing_of 1 first long t t.address ≡ 0 → ⊥) → LentToRead first long t → ⊥
-not-lent first long t n l = n (may_stand (record { lent = l; inside = own t }))
+-- the territory's own address is in it
+pub lent_test : (first long : ℕ) (t : Prefix) → standing_of first long t t.address ≡ cond (lent_to_read first long t) 0 1
+unfolding standing_of
+lent_test first long t = ap (λ (inside : Bool). cond (lent_to_read first long t) (cond inside 0 3) 1) (passes (contains? t t.address) (own t))
+
+-- the first table has a cell, and its cells are counted in 32 bits
+pub some_cell : (first long : ℕ) (t : Prefix) (a : ℕ) → standing_of first long t a ≡ 0 → 0 < first
+some_cell first long t a z = omega (arith, (stands z).lent.a_cell_a_block, some_block t)
+
+pub few_cells : (first long : ℕ) (t : Prefix) (a : ℕ) → standing_of first long t a ≡ 0 → first < 2 ^ 32
+few_cells first long t a z = omega (arith, (stands z).lent.a_cell_a_block, few_blocks t)
 
 module _ (first long : List ℕ) (t : Prefix) (addresses answers : List ℕ) where
   -- what a call asks
@@ -38,14 +47,6 @@ module _ (first long : List ℕ) (t : Prefix) (addresses answers : List ℕ) whe
   pub may_answer? : Decides MayAnswer (lent_to_read (length first) (length long) t && eqb (length addresses) (length answers))
   may_answer? = and? (lent_to_read? (length first) (length long) t) (eqb? (length addresses) (length answers))
 
-  pub refuses : (MayAnswer → ⊥) → record { code = 1; answers = answers } ≡ all_of first long t addresses answers
-  unfolding all_of
-  refuses n = sym (cond_off _ _ may_answer? n)
-
-  pub answered : MayAnswer → {r : List ℕ} → r ≡ map (answer_of first long t) addresses → record { code = 0; answers = r } ≡ all_of first long t addresses answers
-  unfolding all_of
-  answered h e = ap (λ (x : List ℕ). record { code = 0; answers = x }) e ∙ sym (cond_on _ _ may_answer? h)
-
   -- and back, by the number that a call answers
   pub has_answered : {o : Outcome} → o ≡ all_of first long t addresses answers → o.code ≡ 0
       → MayAnswer × (o.answers ≡ map (answer_of first long t) addresses)
@@ -53,12 +54,6 @@ module _ (first long : List ℕ) (t : Prefix) (addresses answers : List ℕ) whe
   has_answered e z =
       by_test may_answer? (λ h. (h, ap (λ (y : Outcome). y.answers) (e ∙ cond_on _ _ may_answer? h)))
       (λ n. absurd (omega (arith, ap (λ (y : Outcome). y.code) (e ∙ cond_off _ _ may_answer? n))))
-
-  pub has_refused : {o : Outcome} → o ≡ all_of first long t addresses answers → (o.code ≡ 0 → ⊥) → (MayAnswer → ⊥) × (o.answers ≡ answers)
-  unfolding all_of
-  has_refused e m =
-      by_test may_answer? (λ h. absurd (m (ap (λ (y : Outcome). y.code) (e ∙ cond_on _ _ may_answer? h))))
-      (λ n. (n, ap (λ (y : Outcome). y.answers) (e ∙ cond_off _ _ may_answer? n)))
 
 -- ---- one address: what the passes make of it
 
@@ -93,24 +88,33 @@ module _ (first long : List ℕ) (t : Prefix) (a : ℕ) (l : LentToRead (length 
 -- ---- all addresses
 
 -- a place is in the first table
-place_lent : (base blocks address : ℕ) → 0 < blocks → place_of base blocks address < blocks
+pub place_lent : (base blocks address : ℕ) → 0 < blocks → place_of base blocks address < blocks
 unfolding place_of
 place_lent base blocks address h =
     let d = ltb? (block_from base address) blocks in
     by_test d (λ l. omega (arith, cond_on (block_from base address) 0 d l)) (λ n. omega (arith, cond_off (block_from base address) 0 d n))
 
-module _ (first long : List ℕ) (t : Prefix) (addresses answers : List ℕ) (l : LentToRead (length first) (length long) t) where
-  pub places_lent : {y : List ℕ} → y ≡ placed_all t.address (length first) addresses answers
-      → (i : ℕ) → i < length y → get_or y i 0 < length first
-  places_lent {y} e i h =
-      let at = place_lent t.address (length first) (get_or addresses i 0) (omega (arith, l.a_cell_a_block, some_block t)) in
-      omega (arith, pass_at _ answers y e i h)
+-- the three passes, each on what the last one left
+module _ (first long : List ℕ) (t : Prefix) (addresses answers : List ℕ) (z : standing_of (length first) (length long) t t.address ≡ 0)
+    (fits : t.address < 2 ^ 32) (small : (i : ℕ) → get_or addresses i 0 < 2 ^ 32) (n : length addresses ≡ length answers) (v w x : List ℕ) where
+  pub passes_all : length v ≡ length answers → length w ≡ length v → length x ≡ length w
+      → ((i : ℕ) → i < length answers → get_or v i 0 ≡ place_of t.address (length first) (get_or addresses i 0))
+      → ((i : ℕ) → i < length v → get_or w i 0 ≡ fetched_of long (get_or addresses i 0) (get_or first (get_or v i 0) 0))
+      → ((i : ℕ) → i < length w → get_or x i 0 ≡ judged_of t.address (length first) (get_or addresses i 0) (get_or w i 0))
+      → record { code = 0; answers = x } ≡ all_of first long t addresses answers
+  unfolding all_of
+  passes_all lv lw lx p q r =
+      ap (λ (y : List ℕ). record { code = 0; answers = y })
+      (ext_get_or 0 x (map (answer_of first long t) addresses)
+      (omega (arith, length-map addresses (answer_of first long t)))
+      (λ i h. let address = get_or addresses i 0 in
+      r i (omega arith)
+      ∙ ap (judged_of t.address (length first) address)
+      (q i (omega arith) ∙ ap (λ (k : ℕ). fetched_of long address (get_or first k 0)) (p i (omega arith)))
+      ∙ passes_answer first long t address (stands z).lent fits (small i)
+      ∙ sym (get_or-map (answer_of first long t) addresses i 0 0 (omega arith))))
+      ∙ sym (cond_on _ _ (may_answer? first long t addresses answers) ((stands z).lent, n))
 
-  -- the three passes, each on what the last one left
-  pub passes_all : t.address < 2 ^ 32 → ((i : ℕ) → i < length addresses → get_or addresses i 0 < 2 ^ 32) → length addresses ≡ length answers → {v w x : List ℕ}
-      → v ≡ placed_all t.address (length first) addresses answers → w ≡ fetched_all first long addresses v
-      → x ≡ judged_all t.address (length first) addresses w
-      → x ≡ map (answer_of first long t) addresses
-  passes_all fits small n {v} {w} {x} p q r =
-      pass_then _ _ answers w x (pass_then _ _ answers v w p q) r
-      ∙ pass_map _ (answer_of first long t) addresses answers n (λ i k. passes_answer first long t (get_or addresses i 0) l fits (small i k))
+-- what a pointer says, on words as they are lent
+pub said_on_words : (long : List ℕ) (low cell : ℕ) → packed (says_of (map (λ n. n) long) low cell) < pointer_bit
+said_on_words long low cell = no_pointer (told_says (map (λ n. n) long) low cell)

@@ -4,15 +4,18 @@
 #![tactic(auto)]
 
 ghost use Rattle.std.specs.Prelude.{◌≡◌, ℕ, ◌<◌, length, get_or};
+ghost use Rattle.ground.specs.Refusals.{code_of};
 ghost use Rattle.bulk.specs.All.{all_of};
-ghost use Rattle.bulk.specs.inner.Passes.{place_of, fetched_of, verdict_or_marked, judged_of, placed_all, fetched_all, judged_all};
+ghost use Rattle.bulk.specs.inner.Passes.{place_of, fetched_of, verdict_or_marked, judged_of};
 
 use cells::cell::Cell;
-use lookup::look::{Answer, says, standing, verdict};
+use ground::refusal::Refusal;
+use lookup::look::{Packed, says, standing, verdict};
 use prefix::Prefix;
 use prefix::geometry::{Block, block_from};
 
 // Where the first table is read for an address: outside the territory at block 0, which is always there.
+#[tactic(auto, unfolding(crate::specs::inner::Passes::place_of))]
 fn place(base: u32, blocks: u32, address: u32) -> u32
     ensures { result ≡ place_of base blocks address }
 {
@@ -21,6 +24,7 @@ fn place(base: u32, blocks: u32, address: u32) -> u32
 }
 
 // A first cell as it is; and of a pointer what it says for the address, marked by a pointer's bit, which no answer has.
+#[tactic(auto, using(crate::proofs::Answering::said_on_words), unfolding(crate::specs::inner::Passes::fetched_of))]
 fn fetched(long: &[u32], address: u32, cell: u32) -> u32
     ensures { result ≡ fetched_of long.now address cell }
 {
@@ -31,6 +35,7 @@ fn fetched(long: &[u32], address: u32, cell: u32) -> u32
 }
 
 // The answer that is marked, or what the first cell says.
+#[tactic(auto, unfolding(crate::specs::inner::Passes::verdict_or_marked))]
 fn verdict_or_marked(word: u32) -> u32
     ensures { result ≡ verdict_or_marked word }
 {
@@ -51,75 +56,63 @@ fn judged(base: u32, blocks: u32, address: u32, word: u32) -> u32
     if block_from(base, address) < blocks {
         number
     } else {
-        Answer::OUTSIDE
+        Packed::refused(Refusal::Outside)
     }
 }
 
-// The first pass: where the first table is read.
-fn places(base: u32, blocks: u32, addresses: &[u32], answers: &mut [u32])
-    requires { length answers.old ≡ length addresses.now }
-    ensures { answers.new ≡ placed_all base blocks addresses.now answers.old }
-{
-    let count = answers.len();
-    let mut i = 0;
-    while i < count {
-        answers[i] = place(base, blocks, addresses[i]);
-        i += 1;
-    }
-}
-
-// The second pass: what stands there. Next to nothing waits for a read, so that as many as can be are under way at once; a pointer, which
-// is rare and foreseen to be none, is followed here.
-fn fetch(first: &[u32], long: &[u32], addresses: &[u32], answers: &mut [u32])
+// A pass: each answer becomes what the step makes of the address at its place and of itself.
+fn pass<F: Fn(u32, u32) -> u32>(addresses: &[u32], answers: &mut [u32], step: F)
     requires sizes { length answers.old ≡ length addresses.now }
-    requires in_table { (i : ℕ) → i < length answers.old → get_or answers.old i 0 < length first.now }
-    ensures { answers.new
-        ≡ fetched_all first.now long.now addresses.now answers.old }
+    requires can { (i : ℕ) → i < length answers.old → F.pre step (get_or addresses.now i 0) (get_or answers.old i 0) }
+    ensures sizes { length answers.new ≡ length answers.old }
+    ensures each { (i : ℕ) → i < length answers.old → F.post step (get_or addresses.now i 0) (get_or answers.old i 0) (get_or answers.new i 0) }
 {
-    let count = answers.len();
-    let mut i = 0;
-    while i < count {
-        answers[i] = fetched(long, addresses[i], first[answers[i] as usize]);
-        i += 1;
+    for (i, answer) in answers.iter_mut().enumerate() {
+        *answer = step(addresses[i], *answer);
     }
 }
 
-// The third pass: what it says. It has no jump, so that a machine can do several cells at once.
-fn judge(base: u32, blocks: u32, addresses: &[u32], answers: &mut [u32])
-    requires { length answers.old ≡ length addresses.now }
-    ensures { answers.new ≡ judged_all base blocks addresses.now answers.old }
-{
-    let count = answers.len();
-    let mut done = 0;
-    while done < count {
-        answers[done] = judged(base, blocks, addresses[done], answers[done]);
-        done += 1;
-    }
-}
-
-// The answers to many addresses, each as one number: 0, or 1 where look up would answer 1 to every address or
-// where the addresses and the answers differ in number; then nothing is written.
+// The answers to many addresses, each as one number; or refusal 1, and nothing is written, where look up would refuse every address with
+// 1 or where the addresses and the answers differ in number.
+#[tactic(auto, using(crate::proofs::Answering::lent_test, crate::proofs::Answering::some_cell, crate::proofs::Answering::few_cells, crate::proofs::Answering::place_lent, ground::proofs::Refusals::number_some), unfolding(crate::specs::All::all_of))]
 pub fn look_up_all(
     first: &[u32],
     long: &[u32],
     territory: Prefix,
     addresses: &[u32],
     answers: &mut [u32],
-) -> u32
-    ensures { record { code = result; answers = answers.new }
+) -> Result<(), Refusal>
+    ensures { record { code = code_of result; answers = answers.new }
         ≡ all_of first.now long.now territory addresses.now answers.old }
 {
     let base = territory.address;
     // The territory's own address is in it: what can fail is what is lent.
-    if standing(1, first.len(), long.len(), territory, base) != 0 {
-        return 1;
-    }
+    standing(first.len(), long.len(), territory, base)?;
     if addresses.len() != answers.len() {
-        return 1;
+        return Err(Refusal::WrongSizes);
     }
     let blocks = first.len() as u32;
-    places(base, blocks, addresses, answers);
-    fetch(first, long, addresses, answers);
-    judge(base, blocks, addresses, answers);
-    0
+    // Where the first table is read.
+    pass(
+        addresses,
+        answers,
+        |address, _| place(base, blocks, address),
+    );
+    // What stands there. Next to nothing waits for a read, so that as many as can be are under way at once; a pointer, which is rare and
+    // foreseen to be none, is followed here.
+    pass(
+        addresses,
+        answers,
+        |address, at|
+            requires { at < length first.now }
+            ensures { result ≡ fetched_of long.entry.now address (get_or first.entry.now at 0) }
+        { fetched(long, address, first[at as usize]) },
+    );
+    // What it says. It has no jump, so that a machine can do several cells at once.
+    pass(
+        addresses,
+        answers,
+        |address, word| judged(base, blocks, address, word),
+    );
+    Ok(())
 }

@@ -14,8 +14,7 @@ use Rattle.prefix.specs.declared.Route.{Route}
 use Rattle.prefix.specs.Routes.{best, IsBest, none, found, AllRoutes, Ascending}
 use Rattle.prefix.proofs.Prefixes.{contains?}
 use Rattle.prefix.proofs.Best.{best_is, longest_unique}
-use Rattle.lookup.specs.declared.look.Answer.{Answer}
-use Rattle.lookup.specs.Lookup.{refused, says_of, look_up}
+use Rattle.lookup.specs.Lookup.{Answer, refused, says_of, look_up}
 use Rattle.cells.specs.Memory.{lent_to_read, Lent, IsLent}
 use Rattle.prefix.specs.Geometry.{block_of, block_size}
 use Rattle.history.specs.History.{History, memory, live, IsAnswer, routed, no_route}

@@ -17,9 +17,8 @@ use Rattle.prefix.specs.Routes.{Match, no_route, via, best, IsLongest, IsBest, n
 use Rattle.prefix.proofs.Prefixes.{cut_to, in_range_lem}
 use Rattle.prefix.proofs.Best.{best_is, longest_unique}
 use Rattle.prefix.proofs.Blocks.{closed, closed_short, block_top}
-use Rattle.lookup.specs.declared.look.Answer.{Answer}
 use Rattle.cells.specs.Cells.{empty, pointer_bit, is_pointer, segment_of, hop_of, length_of, cell_of}
-use Rattle.lookup.specs.Lookup.{refused, verdict_of, says_of, look_up, found as answer-found}
+use Rattle.lookup.specs.Lookup.{Answer, refused, verdict_of, says_of, look_up, found as answer-found}
 use Rattle.cells.proofs.Direct.{is_direct?}
 use Rattle.lookup.proofs.Reading.{Stands, goes_on_lem}
 use Rattle.prefix.proofs.Spans.{block_inside, aligned}

@@ -7,8 +7,7 @@ use Rattle.prefix.specs.Prefixes.{prefix_by, cleared_of, Contains}
 use Rattle.prefix.specs.declared.Route.{Route}
 use Rattle.prefix.specs.Routes.{applied, IsLongest}
 use Rattle.cells.specs.Memory.{Lent}
-use Rattle.lookup.specs.declared.look.Answer.{Answer}
-use Rattle.lookup.specs.Lookup.{found, refused}
+use Rattle.lookup.specs.Lookup.{Answer, found, refused}
 use Rattle.refusals.specs.Codes.{Call, change}
 use Rattle.updates.specs.declared.Report.{Report}
 use Rattle.updates.specs.Calls.{clear, step}

@@ -2,7 +2,6 @@
 -- one answer.
 pub mod Reading
 pub mod Answers
-pub mod Showing
 pub mod Words
 mod OneOutcome
 pub mod FromC

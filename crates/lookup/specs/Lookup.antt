@@ -1,12 +1,20 @@
 -- What look up answers, for any numbers and any words: refusals 1, 3, 4 and 8 in this order, each under exactly its condition.
 -- Assumes nothing.
-use Rattle.std.specs.Prelude.{ℕ, ◌+◌, ◌*◌, ◌/◌, ◌%◌, ◌^◌, cond, List, ltb, eqb, length, get_or}
+use Rattle.std.specs.Prelude.{ℕ, ◌+◌, ◌*◌, ◌/◌, ◌%◌, ◌^◌, cond, List, ltb, eqb, length, get_or, Result, Ok, Err}
+use Rattle.ground.specs.declared.refusal.Refusal.{Refusal}
+use Rattle.ground.specs.Refusals.{number}
 use Rattle.prefix.specs.declared.Prefix.{Prefix}
 use Rattle.cells.specs.Memory.{lent_to_read}
 use Rattle.prefix.specs.Prefixes.{contains}
 use Rattle.prefix.specs.Geometry.{width, block_size, block_of}
-use Rattle.lookup.specs.declared.look.Answer.{Answer}
+use Rattle.lookup.specs.declared.look.Won.{Won}
 use Rattle.cells.specs.Cells.{empty, hop_of, length_of, is_direct, is_pointer, segment_of}
+
+-- a refusal's number, and 0 twice; or 0, the length of the prefix that won, and its hop
+pub record Answer : Type 0 where
+  pub code : ℕ
+  pub length : ℕ
+  pub hop : ℕ
 
 -- a refusal has length 0 and hop 0
 abbrev pub refused : ℕ → Answer
@@ -15,6 +23,11 @@ refused code = record { code = code; length = 0; hop = 0 }
 -- the length of the prefix that won, and its hop
 abbrev pub found : ℕ → ℕ → Answer
 found length hop = record { code = 0; length = length; hop = hop }
+
+-- the answer that a call's outcome stands for
+abbrev pub answer_of : Result Won Refusal → Answer
+answer_of (Ok won) = found won.length won.hop
+answer_of (Err refusal) = refused (number refusal)
 
 -- what the deciding cell says: 0 is no route, a direct cell its length and hop, and anything else is damage
 abbrev pub direct_or_damage : ℕ → ℕ → Answer

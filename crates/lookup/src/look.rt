@@ -1,146 +1,182 @@
 // Look up: the answer to an address, from the first and the long table.
-ghost use Rattle.std.specs.Prelude.{◌≡◌, ◌<◌, ◌≤◌, ◌^◌};
+ghost use Rattle.std.specs.Prelude.{◌≡◌, ℕ, ◌<◌, ◌^◌, map};
+ghost use Rattle.std.specs.Int.{w32, from_le_bytes};
+ghost use Rattle.ground.specs.Refusals.{number, code_of};
 ghost use Rattle.prefix.specs.Geometry.{block_size};
-ghost use Rattle.lookup.specs.Lookup.{refused, found, packed, unpacked_of, direct_or_damage, verdict_of, says_of, look_up};
+ghost use Rattle.lookup.specs.Lookup.{refused, found, packed, unpacked_of, direct_or_damage, verdict_of, says_of, look_up, answer_of};
 ghost use Rattle.lookup.specs.inner.Standing.{standing_of};
+ghost use Rattle.lookup.specs.inner.Outcomes.{outcome_of};
 
 use cells::cell::Cell;
 use cells::sizes::Most;
+use ground::refusal::Refusal;
 use prefix::Prefix;
 use prefix::geometry::{Block, block_from, block_of, blocks_of};
 
-// A refusal's number, and 0 twice; or 0, the length of the prefix that won, and its hop.
-#[repr(C)]
-#[derive(Clone, Copy)]
-pub struct Answer {
-    pub code: u32,
+// The prefix that won: its length and its hop.
+#[derive(Clone, Copy, Debug, PartialEq, Eq)]
+pub struct Won {
     pub length: u32,
     pub hop: u32,
 }
 
-// An answer as the one number code * CODE + length * LENGTH + hop: no other file knows how it is made.
-impl Answer {
+// A cell as it is lent: a word, or the four bytes of one, the lowest first.
+pub trait Word: Copy {
+    ghost spelt: { Self → ℕ };
+
+    fn word(self) -> u32
+        ensures { result ≡ spelt self };
+}
+
+impl Word for u32 {
+    ghost spelt = { λ n. n };
+
+    fn word(self) -> u32 {
+        self
+    }
+}
+
+impl Word for [u8; 4] {
+    ghost spelt = { from_le_bytes w32 };
+
+    fn word(self) -> u32 {
+        u32::from_le_bytes(self)
+    }
+}
+
+// The kind of an answer as one number, code * CODE + length * LENGTH + hop: no other file knows how it is made.
+#[derive(Drop)]
+pub struct Packed {}
+
+impl Packed {
     // What one more in the length adds, which is more than any hop.
     const LENGTH: u32 = 65536;
     // More than any length.
     const LENGTHS: u32 = 64;
     // What one more in the code adds.
-    const CODE: u32 = Answer::LENGTHS * Answer::LENGTH;
-    // Refusal 3, the address is outside the territory.
-    pub const OUTSIDE: u32 = 3 * Answer::CODE;
-    // Refusal 4, damage.
-    pub const DAMAGE: u32 = 4 * Answer::CODE;
-    // Refusal 8, no route.
-    pub const NO_ROUTE: u32 = 8 * Answer::CODE;
+    const CODE: u32 = Packed::LENGTHS * Packed::LENGTH;
 
-    // Any refusal.
-    pub fn refusal(code: u32) -> u32
-        requires { code < 2 ^ 10 }
-        ensures { result ≡ packed (refused code) }
+    pub fn refused(refusal: Refusal) -> u32
+        ensures { result ≡ packed (refused (number refusal)) }
     {
-        code * Answer::CODE
+        u32::from(refusal) * Packed::CODE
     }
 
     // The prefix that won.
-    fn route(length: u32, hop: u32) -> u32
+    fn found(length: u32, hop: u32) -> u32
         requires { (length < 2 ^ 6) × (hop < 2 ^ 16) }
         ensures { result ≡ packed (found length hop) }
     {
-        length * Answer::LENGTH + hop
+        length * Packed::LENGTH + hop
     }
 
-    pub fn unpack(number: u32) -> Answer
-        ensures { result ≡ unpacked_of number }
+    // The number of a refusal in a number, or 0.
+    pub fn code(number: u32) -> u32
+        ensures { result ≡ (unpacked_of number).code }
     {
-        Answer {
-            code: number / Answer::CODE,
-            length: number / Answer::LENGTH % Answer::LENGTHS,
-            hop: number % Answer::LENGTH,
+        number / Packed::CODE
+    }
+
+    // The hop in a number; that of a refusal is 0.
+    pub fn hop(number: u32) -> u32
+        ensures { result ≡ (unpacked_of number).hop }
+    {
+        number % Packed::LENGTH
+    }
+
+    // What a number tells; look up refuses with no number beside these.
+    #[tactic(auto, unfolding(crate::specs::inner::Outcomes::outcome_of, crate::specs::inner::Outcomes::outcome_by))]
+    pub fn unpack(number: u32) -> Result<Won, Refusal>
+        ensures { result ≡ outcome_of number }
+    {
+        match Packed::code(number) {
+            0 => Ok(Won {
+                length: number / Packed::LENGTH % Packed::LENGTHS,
+                hop: Packed::hop(number),
+            }),
+            1 => Err(Refusal::WrongSizes),
+            3 => Err(Refusal::Outside),
+            8 => Err(Refusal::NoRoute),
+            _ => Err(Refusal::Damage),
         }
     }
 }
 
-// 0 where what is lent is right and the address is in the territory, else refusal 1 or 3. The tables are counted in cells, unit 1, or in
-// bytes, unit 4: a table that is no whole number of cells has no right number of bytes.
-pub fn standing(unit: usize, first: usize, long: usize, territory: Prefix, address: u32) -> u32
-    requires { (0 < unit) × (unit ≤ 4) }
-    ensures { result ≡ standing_of unit first long territory address }
+// Refuses what is lent wrongly, and an address that is not in the territory. The tables are counted in cells.
+#[tactic(auto, using(crate::proofs::Reading::inside_test), unfolding(crate::specs::inner::Standing::standing_of, cells::specs::Memory::lent_to_read, prefix::specs::Geometry::is_territory))]
+pub fn standing(first: usize, long: usize, territory: Prefix, address: u32) -> Result<(), Refusal>
+    ensures { code_of result ≡ standing_of first long territory address }
 {
-    let base = territory.address;
-    let length = territory.length;
-    if Block::WIDTH < length {
-        return 1;
+    if !territory.is_territory() || Most::LONG < long {
+        return Err(Refusal::WrongSizes);
     }
-    if prefix::cleared(base, length) != base {
-        return 1;
+    let blocks = blocks_of(territory.length);
+    if first != blocks || long % Block::CELLS != 0 {
+        return Err(Refusal::WrongSizes);
     }
-    if unit * Most::LONG < long {
-        return 1;
+    if blocks <= block_from(territory.address, address) as usize {
+        return Err(Refusal::Outside);
     }
-    let blocks = blocks_of(length);
-    if first != unit * blocks {
-        return 1;
-    }
-    if long % (unit * Block::CELLS) != 0 {
-        return 1;
-    }
-    if blocks <= block_from(base, address) as usize {
-        return 3;
-    }
-    0
+    Ok(())
 }
 
 // The length and the hop of a direct cell, or refusal 4, as one number.
+#[tactic(auto, unfolding(cells::specs::Cells::is_direct))]
 fn direct_or_damage(cell: u32, longest: u32) -> u32
     ensures { result ≡ packed (direct_or_damage longest cell) }
 {
     if Cell::is_direct(cell, longest) {
-        return Answer::route(Cell::length(cell), Cell::hop(cell));
+        return Packed::found(Cell::length(cell), Cell::hop(cell));
     }
-    Answer::DAMAGE
+    Packed::refused(Refusal::Damage)
 }
 
 // What a deciding cell says, as one number. Whether it is 0 is asked last, so that the answer is selected and not jumped to: no
 // processor foresees whether the next address has a route.
+#[tactic(auto, unfolding(crate::specs::Lookup::verdict_of))]
 pub fn verdict(cell: u32, longest: u32) -> u32
     ensures { result ≡ packed (verdict_of longest cell) }
 {
     let number = direct_or_damage(cell, longest);
     if cell == Cell::EMPTY {
-        Answer::NO_ROUTE
+        Packed::refused(Refusal::NoRoute)
     } else {
         number
     }
 }
 
 // What a cell of the first table says for an address whose last eight bits are low, as one number.
-pub fn says(long: &[u32], low: usize, cell: u32) -> u32
+#[tactic(auto, unfolding(crate::specs::Lookup::says_of))]
+pub fn says<W: Word>(long: &[W], low: usize, cell: u32) -> u32
     requires { low < block_size }
-    ensures { result ≡ packed (says_of long.now low cell) }
+    ensures { result ≡ packed (says_of (map W.spelt long.now) low cell) }
 {
     if !Cell::is_pointer(cell) {
         return verdict(cell, Block::WIDTH);
     }
     let segment = Cell::segment(cell);
     if long.len() / Block::CELLS <= segment {
-        return Answer::DAMAGE;
+        return Packed::refused(Refusal::Damage);
     }
-    verdict(long[segment * Block::CELLS + low], 32)
+    verdict(long[segment * Block::CELLS + low].word(), 32)
+}
+
+// The answer as one number. It reads just the one or two cells that decide.
+#[tactic(auto, using(crate::proofs::Reading::reads_past, crate::proofs::Reading::reads_block, crate::proofs::Reading::reads, crate::proofs::Reading::refuses))]
+pub fn answer<W: Word>(first: &[W], long: &[W], territory: Prefix, address: u32) -> u32
+    ensures { result ≡ packed (look_up (map W.spelt first.now) (map W.spelt long.now) territory address) }
+{
+    if let Err(refusal) = standing(first.len(), long.len(), territory, address) {
+        return Packed::refused(refusal);
+    }
+    let cell = first[block_of(territory, address)].word();
+    says(long, (address % Block::SIZE) as usize, cell)
 }
 
 // The answer to an address: the length and the hop of the deciding cell, or refusal 1, 3, 4 or 8.
-pub fn look_up(first: &[u32], long: &[u32], territory: Prefix, address: u32) -> Answer
-    ensures { result ≡ look_up first.now long.now territory address }
+#[tactic(auto, using(crate::proofs::Answers::told_outcome))]
+pub fn look_up(first: &[u32], long: &[u32], territory: Prefix, address: u32) -> Result<Won, Refusal>
+    ensures { answer_of result ≡ look_up first.now long.now territory address }
 {
-    let code = standing(1, first.len(), long.len(), territory, address);
-    if code != 0 {
-        return Answer {
-            code,
-            length: 0,
-            hop: 0,
-        };
-    }
-    let block = block_of(territory, address);
-    let number = says(long, (address % Block::SIZE) as usize, first[block]);
-    Answer::unpack(number)
+    Packed::unpack(answer(first, long, territory, address))
 }

@@ -13,7 +13,7 @@ use Rattle.ground.proofs.Sums.{sum_none, sum-change}
 use Rattle.ground.proofs.Cases.{by_eq}
 use Rattle.ground.proofs.Tests.{eqb?, cond_on, cond_off}
 use Rattle.prefix.specs.declared.Prefix.{Prefix}
-use Rattle.lookup.specs.declared.look.Answer.{Answer}
+use Rattle.lookup.specs.Lookup.{Answer}
 use Rattle.lookup.proofs.Answers.{Told, told_look}
 use Rattle.octets.specs.Words.{word_count, most}
 use Rattle.octets.specs.Booking.{Outcome, clear_octets}

@@ -1,64 +1,29 @@
--- What booking by an answer of look up answers and leaves, one law for each way out; and what an answer of look up names. Assumes nothing.
-use mathlib.Core.Path.{◌≡◌, refl, sym, ap, subst, ◌∙◌}
+-- What an answer of look up names, what one booking does to the words, and the numbers of look up. Assumes nothing.
+use mathlib.Core.Path.{◌≡◌, refl, sym, ap, ap₂, subst, ◌∙◌}
 use mathlib.Core.Bool.{Bool, cond, ◌&&◌}
-use mathlib.Core.List.{List, ◌++◌, append-nil}
-use Prim.Native.Nat.{ℕ, ◌+◌, ◌≤◌, ◌<◌}
+use mathlib.Core.List.{List, map}
+use Prim.Native.Nat.{ℕ, ◌+◌, ◌≤◌}
 use native.Mathlib.Omega.{arith}
 use lib.Dec.{eqb}
-use lib.ListN.{length, get_or, set, drop, replicate, length-set, drop_of_length-le}
-use Rattle.ground.proofs.Tests.{Decides, holds, fails, leb?, eqb?, and?, iff?, stops, by_test, cond_on, cond_off}
+use lib.ListN.{length, get_or, set, replicate, length-set}
+use Rattle.std.proofs.lemmas.List.{map-id}
+use Rattle.ground.proofs.Tests.{Decides, holds, fails, leb?, eqb?, and?, iff?, stops, cond_off}
 use Rattle.ground.proofs.Cases.{by_eq}
+use Rattle.prefix.specs.Routes.{last_hop}
 use Rattle.prefix.specs.declared.Prefix.{Prefix}
-use Rattle.lookup.specs.declared.look.Answer.{Answer}
-use Rattle.lookup.specs.Lookup.{look_up}
-use Rattle.lookup.proofs.Answers.{Told}
+use Rattle.lookup.specs.Lookup.{Answer, look_up, answer_of, packed, unpacked_of}
+use Rattle.lookup.specs.inner.Outcomes.{outcome_of}
+use Rattle.lookup.proofs.Answers.{Told, told_look, unpacked}
 use Rattle.octets.specs.Words.{word_count, most}
-use Rattle.octets.specs.Booking.{Outcome, refused, clear_octets, add_to, refusal_of, enter, book}
+use Rattle.octets.specs.Booking.{Outcome, refused, add_to, refusal_of, enter, book}
 use Rattle.octets.specs.Bookings.{names}
+use Rattle.octets.specs.inner.Numbers.{IsNumber}
 
 -- ---- clear
 
-pub not-cleared : (words : List ℕ) → (length words ≡ word_count → ⊥) → refused 1 words ≡ clear_octets words
-unfolding clear_octets
-not-cleared words n = sym (cond_off _ _ (eqb? (length words) word_count) n)
-
-pub all_cleared : (before words : List ℕ) → length before ≡ word_count → (i : ℕ) → i ≡ word_count → words ≡ replicate i 0 ++ drop i before
-    → record { code = 0; words = words } ≡ clear_octets before
-unfolding clear_octets
-all_cleared before words l i e h =
-    ap (λ (x : List ℕ). record { code = 0; words = x }) (h ∙ ap (λ (k : ℕ). replicate k 0 ++ drop k before) e
-    ∙ ap (λ (x : List ℕ). replicate word_count 0 ++ x) (drop_of_length-le before {i = word_count} (omega arith)) ∙ append-nil (replicate word_count 0))
-    ∙ sym (cond_on _ _ (eqb? (length before) word_count) l)
-
--- ---- the ways out
-
-module _ (answer : Answer) (amount : ℕ) (words : List ℕ) where
-  pub turned_away : {r : ℕ} → r ≡ refusal_of answer.code → (r ≡ 0 → ⊥) → refused r words ≡ enter answer amount words
-  unfolding enter
-  turned_away e n =
-      ap (λ (k : ℕ). refused k words) e ∙ sym (cond_off _ _ (eqb? (refusal_of answer.code) 0) (λ z. n (e ∙ z)))
-
-  module _ (z : refusal_of answer.code ≡ 0) where
-    pub too_much : most < get_or words answer.hop 0 + amount → refused 30 words ≡ enter answer amount words
-    unfolding enter add_to
-    too_much h =
-        sym (cond_on _ _ (eqb? (refusal_of answer.code) 0) z ∙ cond_off _ _ (leb? (get_or words answer.hop 0 + amount) most) (λ l. omega arith))
-
-    pub entered : (v : ℕ) → v ≡ get_or words answer.hop 0 + amount → v ≤ most → record { code = 0; words = set words answer.hop v } ≡ enter answer amount words
-    unfolding enter add_to
-    entered v e h =
-        ap (λ (k : ℕ). record { code = 0; words = set words answer.hop k }) e
-        ∙ sym (cond_on _ _ (eqb? (refusal_of answer.code) 0) z ∙ cond_on _ _ (leb? (get_or words answer.hop 0 + amount) most) (omega arith))
-
-module _ (first long : List ℕ) (t : Prefix) (a amount : ℕ) (words : List ℕ) where
-  pub wrong_words : (length words ≡ word_count → ⊥) → refused 1 words ≡ book first long t a amount words
-  unfolding book
-  wrong_words n = sym (cond_off _ _ (eqb? (length words) word_count) n)
-
-  pub booked : length words ≡ word_count → {r : Answer} {o : Outcome} → r ≡ look_up first long t a → o ≡ enter r amount words
-      → o ≡ book first long t a amount words
-  unfolding book
-  booked l e h = h ∙ ap (λ (x : Answer). enter x amount words) e ∙ sym (cond_on _ _ (eqb? (length words) word_count) l)
+-- as many zeros as there were words
+pub cleared : (words : List ℕ) → length words ≡ word_count → replicate {A = ℕ} (length words) 0 ≡ replicate word_count 0
+cleared words l = ap (λ (n : ℕ). replicate {A = ℕ} n 0) l
 
 -- ---- what an answer of look up names
 
@@ -88,19 +53,25 @@ pub data Did (r : Answer) (amount : ℕ) (words : List ℕ) : Outcome → Type 0
   left : (code : ℕ) → (code ≡ 0 → ⊥) → Did r amount words (refused code words)
 
 pub did_enter : (r : Answer) (amount : ℕ) (words : List ℕ) → Did r amount words (enter r amount words)
-did_enter r amount words =
-    by_test (eqb? (refusal_of r.code) 0)
-    (λ z. by_test (leb? (get_or words r.hop 0 + amount) most)
-    (λ l. subst (Did r amount words) (entered r amount words z _ refl l) (took z l))
-    (λ n. subst (Did r amount words) (too_much r amount words z (omega arith)) (left 30 (λ e. omega arith))))
-    (λ n. subst (Did r amount words) (turned_away r amount words refl n) (left (refusal_of r.code) n))
+unfolding enter add_to
+did_enter r amount words = go (eqb? (refusal_of r.code) 0) (leb? (get_or words r.hop 0 + amount) most)
+  where
+    go : {s t : Bool} → Decides (refusal_of r.code ≡ 0) s → Decides (get_or words r.hop 0 + amount ≤ most) t
+        → Did r amount words
+        (cond s (cond t (record { code = 0; words = set words r.hop (get_or words r.hop 0 + amount) }) (refused 30 words)) (refused (refusal_of r.code) words))
+    go (holds z) (holds l) = took z l
+    go (holds z) (fails n) = left 30 (λ e. omega arith)
+    go (fails n) d = left (refusal_of r.code) n
 
 pub did_book : (first long : List ℕ) (t : Prefix) (a amount : ℕ) (words : List ℕ)
     → Did (look_up first long t a) amount words (book first long t a amount words)
-did_book first long t a amount words =
-    by_test (eqb? (length words) word_count)
-    (λ e. subst (Did (look_up first long t a) amount words) (booked first long t a amount words e refl refl) (did_enter _ amount words))
-    (λ n. subst (Did (look_up first long t a) amount words) (wrong_words first long t a amount words n) (left 1 (λ e. omega arith)))
+unfolding book
+did_book first long t a amount words = go (eqb? (length words) word_count)
+  where
+    go : {s : Bool} → Decides (length words ≡ word_count) s
+        → Did (look_up first long t a) amount words (cond s (enter (look_up first long t a) amount words) (refused 1 words))
+    go (holds e) = did_enter (look_up first long t a) amount words
+    go (fails n) = left 1 (λ e. omega arith)
 
 -- no booking changes how many words there are
 pub did_long : {r : Answer} {amount : ℕ} {words : List ℕ} {o : Outcome} → Did r amount words o → length o.words ≡ length words
@@ -113,3 +84,21 @@ enter_long r amount words e = ap (λ (x : Outcome). length x.words) e ∙ did_lo
 -- a record that is refused adds nothing, whatever word is asked for
 pub not_gained : (amount code : ℕ) → (code ≡ 0 → ⊥) → (asked : Bool) → cond (eqb code 0 && asked) amount 0 ≡ 0
 not_gained amount code n asked = ap (λ (t : Bool). cond (t && asked) amount 0) (stops (eqb? code 0) n)
+
+-- ---- the numbers of look up
+
+pub number_told : {r : Answer} {n : ℕ} → Told r → n ≡ packed r → IsNumber n
+number_told {r} T e =
+    record {
+      outcome = ap (λ (k : ℕ). answer_of (outcome_of k)) e ∙ T.outcome ∙ sym (unpacked T e);
+      hop = subst (λ (s : Answer). s.hop ≤ last_hop) (sym (unpacked T e)) T.hop;
+    }
+
+-- on words as they are lent
+pub is_number : (first long : List ℕ) (t : Prefix) (a n : ℕ) → n ≡ packed (look_up (map (λ k. k) first) (map (λ k. k) long) t a) → IsNumber n
+is_number first long t a n e = number_told (told_look _ _ t a) e
+
+pub unpacked_number : (first long : List ℕ) (t : Prefix) (a n : ℕ) → n ≡ packed (look_up (map (λ k. k) first) (map (λ k. k) long) t a)
+    → unpacked_of n ≡ look_up first long t a
+unpacked_number first long t a n e =
+    unpacked (told_look _ _ t a) e ∙ ap₂ (λ (f l : List ℕ). look_up f l t a) (map-id first) (map-id long)

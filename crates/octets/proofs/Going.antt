@@ -10,18 +10,18 @@ use native.Mathlib.Omega.{arith}
 use lib.Dec.{eqb}
 use lib.ListN.{length, get_or, set, take, drop, length-set, drop_of_length-le}
 use lib.Seq.{drop-cons, take_all, take-suc-set, append_snoc, drop-set-lt}
-use Rattle.ground.proofs.Tests.{Decides, eqb?, and?, cond_on, cond_off}
+use Rattle.ground.proofs.Tests.{Decides, eqb?, and?, cond_on}
 use Rattle.prefix.specs.declared.Prefix.{Prefix}
 use Rattle.cells.specs.Memory.{lent_to_read}
-use Rattle.lookup.specs.Lookup.{unpacked_of}
-use Rattle.lookup.proofs.Answers.{Told, told_look, unpacked}
+use Rattle.lookup.specs.Lookup.{Answer, unpacked_of}
+use Rattle.lookup.proofs.Answers.{told_look, unpacked}
 use Rattle.bulk.proofs.Answering.{MayAnswer, may_answer?}
 use Rattle.bulk.specs.All.{answer_of}
 use Rattle.octets.specs.Words.{word_count}
-use Rattle.octets.specs.Booking.{Outcome}
+use Rattle.octets.specs.Booking.{Outcome, enter, book}
 use Rattle.octets.specs.Many.{Booked, each, book_each, book_all}
-use Rattle.octets.specs.inner.Numbers.{HopsFit, enter_number, enter_each}
-use Rattle.octets.proofs.Entering.{booked, did_enter, did_long}
+use Rattle.octets.specs.inner.Numbers.{AreNumbers, enter_number, enter_each}
+use Rattle.octets.proofs.Entering.{did_enter, did_long, number_told}
 
 -- ---- the loop
 
@@ -86,7 +86,7 @@ module _ {one : ℕ → ℕ → List ℕ → Outcome} {xs ns ws : List ℕ} wher
 module _ (first long : List ℕ) (t : Prefix) where
   by_answers : (xs ns words : List ℕ) → length words ≡ word_count
       → enter_each (map (answer_of first long t) xs) ns words ≡ book_each first long t xs ns words
-  unfolding each
+  unfolding each book
   by_answers [] ns words l = refl
   by_answers (a ∷ xs) [] words l = refl
   by_answers (a ∷ xs) (n ∷ ns) words l =
@@ -94,17 +94,17 @@ module _ (first long : List ℕ) (t : Prefix) where
       let more = did_long (did_enter (unpacked_of (answer_of first long t a)) n words) in
       ap (λ (b : Booked). record { codes = o.code ∷ b.codes; words = b.words }) (by_answers xs ns o.words (more ∙ l))
       ∙ ap (λ (q : Outcome). let b = book_each first long t xs ns q.words in record { codes = q.code ∷ b.codes; words = b.words })
-      (booked first long t a n words l (unpacked (told_look first long t a) refl) refl)
+      (ap (λ (r : Answer). enter r n words) (unpacked (told_look first long t a) refl) ∙ sym (cond_on _ _ (eqb? (length words) word_count) l))
 
 -- ---- the call, by what was tested
 
--- the hop in look up's number is small
-pub hops_small : (first long : List ℕ) (t : Prefix) (xs ys : List ℕ) → ys ≡ map (answer_of first long t) xs → HopsFit ys
-hops_small first long t xs ys e = subst HopsFit (sym e) (go xs)
+-- what look up leaves in the room are its numbers
+pub are_numbers : (first long : List ℕ) (t : Prefix) (xs ys : List ℕ) → ys ≡ map (answer_of first long t) xs → AreNumbers ys
+are_numbers first long t xs ys e = subst AreNumbers (sym e) (go xs)
   where
-    go : (l : List ℕ) → HopsFit (map (answer_of first long t) l)
+    go : (l : List ℕ) → AreNumbers (map (answer_of first long t) l)
     go [] k m = absurd (not-suc-le-zero m)
-    go (x ∷ l) zero m = let T = told_look first long t x in (subst Told (sym (unpacked T refl)) T).hop
+    go (x ∷ l) zero m = number_told (told_look first long t x) refl
     go (x ∷ l) (suc k) m = go l k (le_of_suc-le-suc m)
 
 module _ (first long : List ℕ) (t : Prefix) (addresses amounts codes words : List ℕ) where
@@ -115,11 +115,6 @@ module _ (first long : List ℕ) (t : Prefix) (addresses amounts codes words : L
   asks? : Decides Asks (eqb (length words) word_count && eqb (length amounts) (length addresses)
       && (lent_to_read (length first) (length long) t && eqb (length addresses) (length codes)))
   asks? = and? (and? (eqb? (length words) word_count) (eqb? (length amounts) (length addresses))) (may_answer? first long t addresses codes)
-
-  pub refused_whole : (Asks → ⊥) → {cs : List ℕ} → cs ≡ codes
-      → record { code = 1; words = words; codes = cs } ≡ book_all first long t addresses amounts codes words
-  unfolding book_all
-  refused_whole n e = ap (λ (l : List ℕ). record { code = 1; words = words; codes = l }) e ∙ sym (cond_off _ _ asks? n)
 
   pub booked_each : Asks → {b : Booked} → b ≡ enter_each (map (answer_of first long t) addresses) amounts words
       → record { code = 0; words = b.words; codes = b.codes } ≡ book_all first long t addresses amounts codes words

@@ -1,8 +1,7 @@
 -- What clearing the words and booking a flow answer and leave, for any numbers, any tables and any words. Assumes nothing.
 use Rattle.std.specs.Prelude.{cond, List, ℕ, ◌+◌, leb, eqb, length, get_or, set, replicate}
 use Rattle.prefix.specs.declared.Prefix.{Prefix}
-use Rattle.lookup.specs.declared.look.Answer.{Answer}
-use Rattle.lookup.specs.Lookup.{look_up}
+use Rattle.lookup.specs.Lookup.{Answer, look_up}
 use Rattle.octets.specs.Words.{word_count, most}
 
 -- what a call answers, and the words that it leaves

@@ -3,8 +3,7 @@
 use Rattle.std.specs.Prelude.{◌≡◌, Bool, cond, ◌&&◌, List, [], ◌∷◌, ℕ, ◌+◌, ◌≤◌, ◌<◌, eqb, get_or}
 use Rattle.ground.specs.Sums.{sum}
 use Rattle.prefix.specs.declared.Prefix.{Prefix}
-use Rattle.lookup.specs.declared.look.Answer.{Answer}
-use Rattle.lookup.specs.Lookup.{look_up}
+use Rattle.lookup.specs.Lookup.{Answer, look_up}
 use Rattle.octets.specs.Words.{word_count, most}
 use Rattle.octets.specs.Booking.{Outcome, clear_octets, book}
 

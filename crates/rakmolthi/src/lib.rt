@@ -56,7 +56,7 @@ pub extern "C" fn rk_look_up_all(
         address: base,
         length: base_length,
     };
-    bulk::look_up_all(first, long_table, territory, addresses, answers)
+    code(bulk::look_up_all(first, long_table, territory, addresses, answers))
 }
 
 #[unsafe(no_mangle)]
@@ -167,7 +167,7 @@ pub extern "C" fn rk_write_record(room: &mut [u8], update: Update) -> u32
 pub extern "C" fn rk_clear_octets(octets: &mut [u64]) -> u32
     ensures { record { code = result; words = octets.new } ≡ clear_octets octets.old }
 {
-    octets::clear_octets(octets)
+    code(octets::clear_octets(octets))
 }
 
 #[unsafe(no_mangle)]
@@ -188,7 +188,7 @@ pub extern "C" fn rk_book(
         address: base,
         length: base_length,
     };
-    octets::book(first, long_table, octets, territory, address, amount)
+    code(octets::book(first, long_table, octets, territory, address, amount))
 }
 
 #[unsafe(no_mangle)]
@@ -210,9 +210,9 @@ pub extern "C" fn rk_book_all(
         address: base,
         length: base_length,
     };
-    octets::book_all(
+    code(octets::book_all(
         first, long_table, octets, territory, addresses, amounts, codes,
-    )
+    ))
 }
 
 #[unsafe(no_mangle)]

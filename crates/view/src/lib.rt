@@ -3,9 +3,10 @@
 #![tactic(auto)]
 
 ghost use Rattle.std.specs.Prelude.{◌≡◌};
-ghost use Rattle.lookup.specs.Lookup.{look_up};
+ghost use Rattle.lookup.specs.Lookup.{look_up, answer_of};
 
-use lookup::look::Answer;
+use ground::refusal::Refusal;
+use lookup::look::Won;
 use prefix::Prefix;
 
 // Both tables, to be read only, and the territory.
@@ -28,16 +29,16 @@ pub fn view_of<'a, 'b>(first: &'a [u32], long: &'b [u32], territory: Prefix) -> 
 
 impl<'a, 'b> View<'a, 'b> {
     // The answer to an address, as `lookup::look::look_up` gives it.
-    pub fn look_up(self, address: u32) -> Answer
-        ensures { result ≡ look_up self.entry.first.now self.entry.long.now self.entry.territory address }
+    pub fn look_up(self, address: u32) -> Result<Won, Refusal>
+        ensures { answer_of result ≡ look_up self.entry.first.now self.entry.long.now self.entry.territory address }
     {
         lookup::look::look_up(self.first, self.long, self.territory, address)
     }
 }
 
 // A view is made and asked once.
-pub fn look_in(first: &[u32], long: &[u32], territory: Prefix, address: u32) -> Answer
-    ensures { result ≡ look_up first.now long.now territory address }
+pub fn look_in(first: &[u32], long: &[u32], territory: Prefix, address: u32) -> Result<Won, Refusal>
+    ensures { answer_of result ≡ look_up first.now long.now territory address }
 {
     view_of(first, long, territory).look_up(address)
 }

@@ -1,7 +1,6 @@
--- What each pass makes of one answer, and of all. The room for the answers holds in turn a place in the first table, the cell there or the
+-- What each pass makes of one answer. The room for the answers holds in turn a place in the first table, the cell there or the
 -- marked answer where that is a pointer, and the answer. Assumes nothing.
-use Rattle.std.specs.Prelude.{ℕ, ◌+◌, ◌-◌, ◌%◌, cond, List, ltb, get_or}
-use Rattle.ground.specs.Lists.{map_at}
+use Rattle.std.specs.Prelude.{ℕ, ◌+◌, ◌-◌, ◌%◌, cond, List, ltb}
 use Rattle.prefix.specs.Geometry.{width, block_size, block_from}
 use Rattle.cells.specs.Cells.{pointer_bit, is_pointer}
 use Rattle.lookup.specs.Lookup.{refused, verdict_of, says_of, packed}
@@ -21,14 +20,3 @@ verdict_or_marked word = cond (is_pointer word) (word - pointer_bit) (packed (ve
 -- that in the territory, and refusal 3 outside it
 unfoldable pub judged_of : ℕ → ℕ → ℕ → ℕ → ℕ
 judged_of base blocks address word = cond (ltb (block_from base address) blocks) (verdict_or_marked word) (packed (refused 3))
-
--- ---- the passes, each over all answers
-
-abbrev pub placed_all : ℕ → ℕ → List ℕ → List ℕ → List ℕ
-placed_all base blocks addresses answers = map_at (λ i x. place_of base blocks (get_or addresses i 0)) answers
-
-abbrev pub fetched_all : List ℕ → List ℕ → List ℕ → List ℕ → List ℕ
-fetched_all first long addresses answers = map_at (λ i x. fetched_of long (get_or addresses i 0) (get_or first x 0)) answers
-
-abbrev pub judged_all : ℕ → ℕ → List ℕ → List ℕ → List ℕ
-judged_all base blocks addresses answers = map_at (λ i x. judged_of base blocks (get_or addresses i 0) x) answers
