@@ -1,13 +1,11 @@
 // Which of two lines of the sheet goes before the other.
 ghost use Rattle.std.specs.Prelude.{◌≡◌, ◌<◌, ◌≤◌};
-ghost use Rattle.std.specs.Ordering.{partial_lt};
 ghost use Rattle.octets.specs.Words.{most, word_count};
 ghost use Rattle.costs.specs.Lines.{rate_of};
 ghost use Rattle.costs.specs.Ranks.{class_of, tie_broken, ahead};
 ghost use Rattle.costs.specs.inner.Classes.{number};
 
 use crate::line::rate;
-use std::cmp::Ordering;
 
 // The classes of lines, as they follow one another.
 #[derive(Clone, Copy, PartialEq, Eq, PartialOrd, Ord)]
@@ -28,15 +26,15 @@ pub struct Entry {
     ghost small: { (octets ≤ most) × (cents ≤ most) },
 }
 
-// The larger value first, then the lower number.
+// Whether a goes before b, where `there` says that cost alone puts it there, and `back` that it puts b before a: a tie goes to the lower number.
 #[tactic(auto, unfolding(crate::specs::Ranks::tie_broken))]
-fn larger_first<T: PartialOrd + Copy>(x: T, y: T, a: u32, b: u32) -> bool
-    ensures { result ≡ tie_broken (partial_lt T.partial_cmp y x) (partial_lt T.partial_cmp x y) a b }
+fn tie_broken(there: bool, back: bool, a: u32, b: u32) -> bool
+    ensures { result ≡ tie_broken there back a b }
 {
-    if y < x {
+    if there {
         return true;
     }
-    if x < y {
+    if back {
         return false;
     }
     a < b
@@ -69,16 +67,20 @@ impl Entry {
             ≡ tie_broken (ahead self.octets self.cents other.octets other.cents)
             (ahead other.octets other.cents self.octets self.cents) self.hop other.hop }
     {
-        let class = self.class();
-        match class.cmp(&other.class()) {
-            Ordering::Less => true,
-            Ordering::Greater => false,
-            Ordering::Equal => match class {
-                Class::Traffic => larger_first(self.rate(), other.rate(), self.hop, other.hop),
-                Class::CentsAlone | Class::Nothing => {
-                    larger_first(self.cents, other.cents, self.hop, other.hop)
-                }
-            },
+        match (self.class(), other.class()) {
+            (Class::Traffic, Class::Traffic) => {
+                let (rate, other_rate) = (self.rate(), other.rate());
+                tie_broken(other_rate < rate, rate < other_rate, self.hop, other.hop)
+            }
+            (Class::CentsAlone, Class::CentsAlone) | (Class::Nothing, Class::Nothing) => {
+                tie_broken(
+                    other.cents < self.cents,
+                    self.cents < other.cents,
+                    self.hop,
+                    other.hop,
+                )
+            }
+            (class, other_class) => class < other_class,
         }
     }
 }
