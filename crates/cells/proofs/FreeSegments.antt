@@ -3,13 +3,15 @@
 use mathlib.Core.Path.{◌≡◌, refl, ap, ◌∙◌}
 use mathlib.Core.Bool.{Bool, true, false, cond, not, ◌&&◌, true≢false}
 use mathlib.Core.List.{List, [], ◌∷◌}
-use Prim.Native.Nat.{ℕ, zero, suc, ◌≤◌, ◌<◌}
+use Prim.Native.Nat.{ℕ, zero, suc, ◌+◌, ◌≤◌, ◌<◌}
 use native.Mathlib.Nat.{lt_of_not-le}
 use native.Mathlib.Omega.{arith}
-use lib.Dec.{eqb}
+use lib.Dec.{ltb, eqb}
 use lib.ListN.{length, get_or}
 use borrow.Author.Tests.{eqb-true}
-use Rattle.ground.proofs.Tests.{Decides, holds, fails, leb?, ltb?, eqb?, and?, not?, iff?, cond_on, cond_off}
+use Rattle.std.proofs.Common.{None, Some}
+use Rattle.std.specs.List.{position, position_or_len}
+use Rattle.ground.proofs.Tests.{Decides, holds, fails, leb?, ltb?, eqb?, and?, not?, iff?, cond_on, cond_off, says}
 use Rattle.prefix.specs.declared.Prefix.{Prefix}
 use Rattle.prefix.specs.Geometry.{width, block_of}
 use Rattle.cells.specs.Cells.{pointer_bit}
@@ -53,3 +55,23 @@ no_zero? (w ∷ ws) = go (eqb w 0) (no_zero? ws)
     go : (t : Bool) {u : Bool} → Decides (lowest_free ws ≡ length ws) u → Decides (cond t 0 (suc (lowest_free ws)) ≡ suc (length ws)) (not t && u)
     go true d = fails (λ e. omega arith)
     go false d = iff? d (λ e. omega arith) (λ e. omega arith)
+
+-- the library's first index at which a word is 0
+lowest_position : (ws : List ℕ) → position_or_len (λ w. eqb w 0) ws ≡ lowest_free ws
+unfolding lowest_free
+lowest_position [] = refl
+lowest_position (w ∷ ws) = go (eqb w 0) (lowest_position ws)
+  where
+    go : (t : Bool) → position_or_len (λ w. eqb w 0) ws ≡ lowest_free ws
+        → cond (not t) (1 + position_or_len (λ w. eqb w 0) ws) 0 ≡ cond t 0 (suc (lowest_free ws))
+    go true ih = refl
+    go false ih = omega arith
+
+-- so it is the lowest free segment, where one is free
+pub position_free : (ws : List ℕ) → position (λ w. eqb w 0) ws ≡ cond (no_zero ws) None (Some (lowest_free ws))
+position_free ws = rw (lowest_position ws) (go (no_zero ws) refl)
+  where
+    go : (t : Bool) → no_zero ws ≡ t
+        → cond (ltb (lowest_free ws) (length ws)) (Some (lowest_free ws)) None ≡ cond t None (Some (lowest_free ws))
+    go true e = cond_off (Some (lowest_free ws)) None (ltb? (lowest_free ws) (length ws)) (λ h. omega (arith, says (no_zero? ws) e))
+    go false e = cond_on (Some (lowest_free ws)) None (ltb? (lowest_free ws) (length ws)) (lowest_free_lem ws e).0

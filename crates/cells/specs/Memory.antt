@@ -3,6 +3,7 @@ use Rattle.std.specs.Prelude.{◌≡◌, ℕ, suc, ◌*◌, ◌%◌, ◌≤◌, 
 use Rattle.prefix.specs.declared.Prefix.{Prefix}
 use Rattle.prefix.specs.Geometry.{width, block_size, is_territory, Territory, blocks, block_of}
 use Rattle.cells.specs.Cells.{is_pointer}
+use Rattle.cells.specs.declared.lent.Lent.{Lent as LentToRead}
 
 -- the first table, the long table, and the owner words
 pub record Tables : Type 0 where
@@ -20,6 +21,10 @@ tables_of first long owners = record { first = first; long = long; owners = owne
 
 abbrev pub lent_of : (first long owners rules : List ℕ) → Lent
 lent_of first long owners rules = record { tables = tables_of first long owners; rules = rules }
+
+-- the memory that is lent to be read
+abbrev pub held : LentToRead → Lent
+held m = lent_of m.first.now m.long.now m.owners.now m.rules.now
 
 -- ---- sizes, in cells and words
 

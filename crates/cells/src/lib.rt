@@ -2,5 +2,6 @@
 #![tactic(auto)]
 
 pub mod cell;
+pub mod lent;
 pub mod segments;
 pub mod sizes;

@@ -1,8 +1,7 @@
 // Segments: whether a prefix needs one, and the lowest that is free.
-ghost use Rattle.std.specs.Prelude.{◌≡◌, not, ◌&&◌, ltb};
+ghost use Rattle.std.specs.Prelude.{◌≡◌, not, ◌&&◌, ltb, ◌==◌, position};
 ghost use Rattle.prefix.specs.Geometry.{width};
 ghost use Rattle.cells.specs.Cells.{is_pointer};
-ghost use Rattle.cells.specs.Memory.{lowest_free};
 
 use crate::cell::Cell;
 use prefix::geometry::Block;
@@ -17,16 +16,9 @@ pub fn needs_segment(cell: u32, length: u32) -> bool
     !Cell::is_pointer(cell)
 }
 
-// The lowest free segment, or how many segments there are.
-pub fn free_segment(owners: &[u32]) -> usize
-    ensures { result ≡ lowest_free owners.now }
+// The lowest free segment, if one is free.
+pub fn free_segment(owners: &[u32]) -> Option<usize>
+    ensures { result ≡ position (λ owner. owner == 0) owners.now }
 {
-    let mut i = 0;
-    while i < owners.len() {
-        if owners[i] == 0 {
-            return i;
-        }
-        i += 1;
-    }
-    i
+    owners.iter().position(|owner| *owner == 0)
 }

@@ -8,12 +8,14 @@ use native.Mathlib.Nat.{mul-one, not-suc-le-zero}
 use native.Mathlib.Omega.{arith}
 use lib.Dec.{T, eqb, ltb, lit<}
 use lib.ListN.{get_or}
-use lib.Ieee.{Float, lt}
+use lib.Ieee.{lt}
 use lib.Ieee.Positive.{num, den, den_pos, through}
 use borrow.Author.Tests.{lt-ltb, le-ltb, ltb-true, ltb-false, eq-eqb, ne_eqb}
 use Rattle.costs.specs.Lines.{rate_of}
 use Rattle.costs.specs.Ranks.{Sound, class_of, dearer, ahead, tie_broken, hop_word, before}
 use Rattle.costs.specs.Order.{Order}
+use Rattle.costs.specs.declared.order.Entry.{Entry}
+use Rattle.costs.specs.inner.Entries.{EntryOf}
 use Rattle.ground.proofs.Cases.{by_lt, by_eq, by_cmp}
 use Rattle.ground.proofs.Tests.{Decides, holds, fails, ltb?, says, passes, stops, iff?}
 use Rattle.costs.proofs.Rates.{plain, lt_is, rate_plain}
@@ -260,14 +262,15 @@ module _ (os cs : List ℕ) (l : Sound os cs) where
       go (inl g) = (stops (at? b a) (λ k. one_way _ _ _ _ _ _ (says (at? a b) g) k), λ f. absurd (true≢false (sym g ∙ f)))
       go (inr g) = (g.1.0, λ f. g.1.1)
 
--- the order of two hops, by the words that the code reads
-pub by_words : {r : Bool} {ob cb : ℕ} (os cs : List ℕ) (a b : ℕ) → 0 < a → 0 < b → ob ≡ get_or os b 0 → cb ≡ get_or cs b 0
-    → r ≡ tie_broken (ahead (get_or os a 0) (get_or cs a 0) ob cb) (ahead ob cb (get_or os a 0) (get_or cs a 0)) a b
-    → r ≡ before os cs a b
+-- the order of two hops, by their entries
+pub by_entries : {r : Bool} {a : ℕ} (os cs : List ℕ) (x y : Entry) → x.hop ≡ a → EntryOf os cs x → EntryOf os cs y
+    → r ≡ tie_broken (ahead x.octets x.cents y.octets y.cents) (ahead y.octets y.cents x.octets x.cents) x.hop y.hop
+    → r ≡ before os cs a y.hop
 unfolding before
-by_words os cs a b p q e f h = rw (hop_word_is os a p, hop_word_is cs a p, hop_word_is os b q ∙ sym e, hop_word_is cs b q ∙ sym f) h
+by_entries os cs x y e p q h =
+    rw (sym e, hop_word_is os x.hop x.is_hop.0 ∙ sym p.0, hop_word_is cs x.hop x.is_hop.0 ∙ sym p.1, hop_word_is os y.hop y.is_hop.0 ∙ sym q.0, hop_word_is cs y.hop y.is_hop.0 ∙ sym q.1) h
 
--- ---- the answers of `line_before`
+-- ---- within a class
 
 module _ (o c o' c' : ℕ) where
   pub by_rates : class_of o c ≡ class_of o' c' → class_of o c ≡ 1 → ahead o c o' c' ≡ lt (rate_of o' c') (rate_of o c)
@@ -284,20 +287,3 @@ module _ (o c o' c' : ℕ) where
       (λ y. ap (λ (k : ℕ). dearer k o c o' c') (class_none o c z y) ∙ sym (le-ltb c' c (omega arith)))
       (λ y. ap (λ (k : ℕ). dearer k o c o' c') (class_cents o c z y)))
       (λ m. absurd (n (class_rate o c m)))
-
-module _ (o c o' c' a b : ℕ) where
-  pub line_lower : class_of o c < class_of o' c' → true ≡ tie_broken (ahead o c o' c') (ahead o' c' o c) a b
-  line_lower h = sym (broken_first a b (ahead o c o' c') (ahead o' c' o c) (ahead_lower o c o' c' h))
-
-  pub line_higher : class_of o' c' < class_of o c → false ≡ tie_broken (ahead o c o' c') (ahead o' c' o c) a b
-  line_higher h = sym (broken_second a b (ahead o c o' c') (ahead o' c' o c) (ahead_higher o c o' c' h) (ahead_lower o' c' o c h))
-
-  pub line_rates : {r : Bool} {x y : Float} → class_of o c ≡ class_of o' c' → class_of o c ≡ 1 → x ≡ rate_of o c → y ≡ rate_of o' c' → r ≡ tie_broken (lt y x) (lt x y) a b
-      → r ≡ tie_broken (ahead o c o' c') (ahead o' c' o c) a b
-  line_rates e f p q h =
-      h ∙ (ap₂ (λ (u v : Float). tie_broken (lt v u) (lt u v) a b) p q
-      ∙ sym (ap₂ (λ (s t : Bool). tie_broken s t a b) (by_rates o c o' c' e f) (by_rates o' c' o c (sym e) (sym e ∙ f))))
-
-  pub line_cents : {r : Bool} → class_of o c ≡ class_of o' c' → (class_of o c ≡ 1 → ⊥) → r ≡ tie_broken (ltb c' c) (ltb c c') a b
-      → r ≡ tie_broken (ahead o c o' c') (ahead o' c' o c) a b
-  line_cents e n h = h ∙ sym (ap₂ (λ (s t : Bool). tie_broken s t a b) (by_cents o c o' c' e n) (by_cents o' c' o c (sym e) (λ f. n (e ∙ f))))

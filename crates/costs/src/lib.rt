@@ -1,5 +1,6 @@
 // What the upstreams cost: the line of a hop, and which of two hops ranks before the other.
 #![tactic(auto)]
 
+pub mod ledger;
 pub mod line;
 pub mod order;

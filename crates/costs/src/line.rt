@@ -3,6 +3,7 @@ ghost use Rattle.std.specs.Prelude.{◌≡◌, ◌≤◌};
 ghost use Rattle.octets.specs.Words.{most};
 ghost use Rattle.costs.specs.Lines.{rate_of, words_line, line_of, values_of};
 
+use ground::refusal::Refusal;
 use octets::words::Words;
 use prefix::LAST_HOP;
 
@@ -11,7 +12,7 @@ pub enum Line {
     // Cents for an octet.
     Rate(f64),
     NoTraffic,
-    Refused(u32),
+    Refused(Refusal),
 }
 
 // A line in numbers, as C gets it: traffic is 1 where the rate holds; 0 with code 0 is "no traffic".
@@ -32,15 +33,15 @@ pub(crate) fn rate(octets: u64, cents: u64) -> f64
 }
 
 // The line of a hop's two words.
-#[tactic(auto, unfolding(crate::specs::Lines::words_line))]
+#[tactic(auto, unfolding(crate::specs::Lines::words_line, crate::specs::Lines::refusal_of))]
 fn line_of(octets: u64, cents: u64) -> Line
     ensures { result ≡ words_line octets cents }
 {
     if Words::MOST < octets {
-        return Line::Refused(30);
+        return Line::Refused(Refusal::TooManyOctets);
     }
     if Words::MOST < cents {
-        return Line::Refused(31);
+        return Line::Refused(Refusal::TooManyCents);
     }
     if octets == 0 {
         return Line::NoTraffic;
@@ -49,43 +50,33 @@ fn line_of(octets: u64, cents: u64) -> Line
 }
 
 // The line of a hop, or refusal 1, 2, 30 or 31.
+#[tactic(auto, unfolding(crate::specs::Lines::line_of, crate::specs::Lines::line_code, crate::specs::Lines::words_line, crate::specs::Lines::refusal_of))]
 pub fn cost_line(octets: &[u64], cents: &[u64], hop: u32) -> Line
     ensures { result ≡ line_of octets.now cents.now hop }
 {
-    if octets.len() != Words::COUNT {
-        return Line::Refused(1);
+    if octets.len() != Words::COUNT || cents.len() != Words::COUNT {
+        return Line::Refused(Refusal::WrongSizes);
     }
-    if cents.len() != Words::COUNT {
-        return Line::Refused(1);
-    }
-    if hop < 1 {
-        return Line::Refused(2);
-    }
-    if LAST_HOP < hop {
-        return Line::Refused(2);
+    if !(1..=LAST_HOP).contains(&hop) {
+        return Line::Refused(Refusal::WrongNumbers);
     }
     line_of(octets[hop as usize], cents[hop as usize])
 }
 
 // The numbers that each case of a line stands for.
-pub fn values_of(line: Line) -> Values
-    ensures { result ≡ values_of line }
-{
-    match line {
-        Line::Rate(rate) => Values {
-            code: 0,
-            traffic: 1,
-            rate,
-        },
-        Line::NoTraffic => Values {
-            code: 0,
-            traffic: 0,
-            rate: 0.0,
-        },
-        Line::Refused(code) => Values {
+impl From<Line> for Values {
+    ghost from_gives = { λ line values. values ≡ values_of line };
+
+    fn from(line: Line) -> Values {
+        let (code, traffic, rate) = match line {
+            Line::Rate(rate) => (0, 1, rate),
+            Line::NoTraffic => (0, 0, 0.0),
+            Line::Refused(refusal) => (refusal.into(), 0, 0.0),
+        };
+        Values {
             code,
-            traffic: 0,
-            rate: 0.0,
-        },
+            traffic,
+            rate,
+        }
     }
 }

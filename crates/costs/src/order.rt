@@ -1,27 +1,37 @@
-// Which of two hops ranks before the other.
-ghost use Rattle.std.specs.Prelude.{◌≡◌, ◌<◌, ◌≤◌, ltb, get_or};
-ghost use Rattle.std.specs.Float.Ieee.{lt};
+// Which of two lines of the sheet goes before the other.
+ghost use Rattle.std.specs.Prelude.{◌≡◌, ◌<◌, ◌≤◌};
+ghost use Rattle.std.specs.Ordering.{partial_lt};
 ghost use Rattle.octets.specs.Words.{most, word_count};
-ghost use Rattle.costs.specs.Ranks.{Sound, class_of, tie_broken, ahead, before};
+ghost use Rattle.costs.specs.Lines.{rate_of};
+ghost use Rattle.costs.specs.Ranks.{class_of, tie_broken, ahead};
+ghost use Rattle.costs.specs.inner.Classes.{number};
 
 use crate::line::rate;
+use std::cmp::Ordering;
 
-// 0 for cents without octets, 1 for octets, 2 for neither.
-fn class(octets: u64, cents: u64) -> u32
-    ensures { result ≡ class_of octets cents }
-{
-    if octets != 0 {
-        return 1;
-    }
-    if cents != 0 {
-        return 0;
-    }
-    2
+// The classes of lines, as they follow one another.
+#[derive(Clone, Copy, PartialEq, Eq, PartialOrd, Ord)]
+enum Class {
+    // Cents without octets.
+    CentsAlone,
+    Traffic,
+    Nothing,
 }
 
-// The larger rate first, then the lower number.
-fn by_rate(x: f64, y: f64, a: u32, b: u32) -> bool
-    ensures { result ≡ tie_broken (lt y x) (lt x y) a b }
+// A hop with its two words.
+#[derive(Clone, Copy)]
+pub struct Entry {
+    pub hop: u32,
+    pub octets: u64,
+    pub cents: u64,
+    ghost is_hop: { (0 < hop) × (hop < word_count) },
+    ghost small: { (octets ≤ most) × (cents ≤ most) },
+}
+
+// The larger value first, then the lower number.
+#[tactic(auto, unfolding(crate::specs::Ranks::tie_broken))]
+fn larger_first<T: PartialOrd + Copy>(x: T, y: T, a: u32, b: u32) -> bool
+    ensures { result ≡ tie_broken (partial_lt T.partial_cmp y x) (partial_lt T.partial_cmp x y) a b }
 {
     if y < x {
         return true;
@@ -32,64 +42,43 @@ fn by_rate(x: f64, y: f64, a: u32, b: u32) -> bool
     a < b
 }
 
-// The larger number of cents first, then the lower number.
-fn by_cents(x: u64, y: u64, a: u32, b: u32) -> bool
-    ensures { result ≡ tie_broken (ltb y x) (ltb x y) a b }
-{
-    if y < x {
-        return true;
+impl Entry {
+    #[tactic(auto, unfolding(crate::specs::Ranks::class_of))]
+    fn class(self) -> Class
+        ensures { number result ≡ class_of self.octets self.cents }
+    {
+        if self.octets != 0 {
+            return Class::Traffic;
+        }
+        if self.cents != 0 {
+            return Class::CentsAlone;
+        }
+        Class::Nothing
     }
-    if x < y {
-        return false;
-    }
-    a < b
-}
 
-// The line of a before the line of b, and at equal cost the lower number.
-fn line_before(octets_a: u64, cents_a: u64, octets_b: u64, cents_b: u64, a: u32, b: u32) -> bool
-    requires line_a { (octets_a ≤ most) × (cents_a ≤ most) }
-    requires line_b { (octets_b ≤ most) × (cents_b ≤ most) }
-    ensures { result
-        ≡ tie_broken (ahead octets_a cents_a octets_b cents_b) (ahead octets_b cents_b octets_a cents_a) a b }
-{
-    let class_a = class(octets_a, cents_a);
-    let class_b = class(octets_b, cents_b);
-    if class_a < class_b {
-        return true;
+    fn rate(self) -> f64
+        ensures { result ≡ rate_of self.octets self.cents }
+    {
+        rate(self.octets, self.cents)
     }
-    if class_b < class_a {
-        return false;
-    }
-    if class_a == 1 {
-        return by_rate(rate(octets_a, cents_a), rate(octets_b, cents_b), a, b);
-    }
-    by_cents(cents_a, cents_b, a, b)
-}
 
-// Whether hop a ranks before hop b, whose two words are at hand.
-pub fn ranks_before_words(
-    octets: &[u64],
-    cents: &[u64],
-    a: u32,
-    b: u32,
-    octets_b: u64,
-    cents_b: u64,
-) -> bool
-    requires sound { Sound octets.now cents.now }
-    requires are_hops { ((0 < a) × (a < word_count)) × ((0 < b) × (b < word_count)) }
-    requires line_of_b { (octets_b ≡ get_or octets.now b 0) × (cents_b ≡ get_or cents.now b 0) }
-    ensures { result ≡ before octets.now cents.now a b }
-{
-    let i = a as usize;
-    line_before(octets[i], cents[i], octets_b, cents_b, a, b)
-}
-
-// Whether hop a ranks before hop b.
-pub fn ranks_before(octets: &[u64], cents: &[u64], a: u32, b: u32) -> bool
-    requires sound { Sound octets.now cents.now }
-    requires are_hops { ((0 < a) × (a < word_count)) × ((0 < b) × (b < word_count)) }
-    ensures { result ≡ before octets.now cents.now a b }
-{
-    let j = b as usize;
-    ranks_before_words(octets, cents, a, b, octets[j], cents[j])
+    // Whether this line goes before the other: at equal cost the lower number does.
+    #[tactic(auto, unfolding(crate::specs::Ranks::tie_broken, crate::specs::Ranks::ahead, crate::specs::Ranks::class_of, crate::specs::Ranks::dearer))]
+    pub(crate) fn ranks_before(self, other: Entry) -> bool
+        ensures { result
+            ≡ tie_broken (ahead self.octets self.cents other.octets other.cents)
+            (ahead other.octets other.cents self.octets self.cents) self.hop other.hop }
+    {
+        let class = self.class();
+        match class.cmp(&other.class()) {
+            Ordering::Less => true,
+            Ordering::Greater => false,
+            Ordering::Equal => match class {
+                Class::Traffic => larger_first(self.rate(), other.rate(), self.hop, other.hop),
+                Class::CentsAlone | Class::Nothing => {
+                    larger_first(self.cents, other.cents, self.hop, other.hop)
+                }
+            },
+        }
+    }
 }

@@ -17,7 +17,7 @@ ghost use Rattle.rules.specs.Words.{route_by};
 ghost use Rattle.updates.specs.Calls.{reported, step, clear};
 
 use costs::line::Values;
-use ground::refusal;
+use ground::refusal::code;
 use prefix::Prefix;
 use records::{Reading, Update};
 use updates::Report;
@@ -75,7 +75,7 @@ pub extern "C" fn rk_clear(
         address: base,
         length: base_length,
     };
-    updates::clear(first, long_table, owners, rules, territory)
+    code(updates::clear(first, long_table, owners, rules, territory))
 }
 
 #[unsafe(no_mangle)]
@@ -99,7 +99,7 @@ pub extern "C" fn rk_announce(
         length: base_length,
     };
     let prefix = Prefix { address, length };
-    updates::announce(first, long_table, owners, rules, territory, prefix, hop)
+    updates::announce(first, long_table, owners, rules, territory, prefix, hop).into()
 }
 
 #[unsafe(no_mangle)]
@@ -121,7 +121,7 @@ pub extern "C" fn rk_withdraw(
         length: base_length,
     };
     let prefix = Prefix { address, length };
-    updates::withdraw(first, long_table, owners, rules, territory, prefix)
+    updates::withdraw(first, long_table, owners, rules, territory, prefix).into()
 }
 
 #[unsafe(no_mangle)]
@@ -144,7 +144,7 @@ pub extern "C" fn rk_re_home(
         length: base_length,
     };
     let prefix = Prefix { address, length };
-    updates::re_home(first, long_table, owners, rules, territory, prefix, hop)
+    updates::re_home(first, long_table, owners, rules, territory, prefix, hop).into()
 }
 
 #[unsafe(no_mangle)]
@@ -158,7 +158,7 @@ pub extern "C" fn rk_read_record(bytes: &[u8], expected: u32) -> Reading
 pub extern "C" fn rk_write_record(room: &mut [u8], update: Update) -> u32
     ensures { Writes room.old update result room.new }
 {
-    refusal::code(records::write(room, update))
+    code(records::write(room, update))
 }
 
 #[unsafe(no_mangle)]
@@ -217,12 +217,12 @@ pub extern "C" fn rk_book_all(
 pub extern "C" fn rk_cost_line(octets: &[u64], cents: &[u64], hop: u32) -> Values
     ensures { result ≡ values_of (line_of octets.now cents.now hop) }
 {
-    costs::line::values_of(costs::line::cost_line(octets, cents, hop))
+    costs::line::cost_line(octets, cents, hop).into()
 }
 
 #[unsafe(no_mangle)]
 pub extern "C" fn rk_cost_sheet(octets: &[u64], cents: &[u64], hops: &mut [u32]) -> u32
     ensures { SheetIs octets.now cents.now hops.old result hops.new }
 {
-    sheet::cost_sheet(octets, cents, hops)
+    code(sheet::cost_sheet(octets, cents, hops))
 }

@@ -18,15 +18,21 @@ use Rattle.prefix.proofs.Best.{is_route?}
 use Rattle.prefix.proofs.Blocks.{Opens, opened?}
 use Rattle.prefix.proofs.Spans.{some_block, opens-own}
 use Rattle.cells.specs.Cells.{pointer_bit}
-use Rattle.cells.specs.Memory.{Tables, Lent, is_lent, IsLent, no_zero, needs_segment}
+use Rattle.cells.specs.Memory.{Tables, Lent, is_lent, IsLent, no_zero, lowest_free, needs_segment}
 use Rattle.cells.proofs.Lending.{is_lent?}
-use Rattle.cells.proofs.FreeSegments.{needs_segment?}
+use Rattle.cells.proofs.FreeSegments.{needs_segment?, position_free}
 use Rattle.rules.specs.Rules.{routes, is_live}
 use Rattle.rules.proofs.Indices.{is_live?}
+use Rattle.ground.specs.declared.refusal.Refusal.{Refusal}
+use Rattle.ground.specs.Refusals.{number as number_of}
+use Rattle.ground.proofs.Refusals.{number_some}
+use mathlib.Core.List.{List}
+use Rattle.std.specs.List.{position}
+use Rattle.std.proofs.Common.{Option, None, Some, Result, Ok, Err, is_ok}
 use Rattle.refusals.specs.declared.codes.Checked.{Checked}
 use Rattle.damage.specs.Damage.{undamaged}
 use Rattle.refusals.specs.Codes.{Call, change, tested, unless_live, unless_room, own, code}
-use Rattle.refusals.specs.inner.Checks.{Learnt, unless_damaged, never, Asked}
+use Rattle.refusals.specs.inner.Checks.{Learnt, Told, opens_for, unless_damaged, never, Asked}
 use Rattle.refusals.proofs.FreeWords.{all_live}
 use Rattle.damage.proofs.Soundness.{BlockSound, Undamaged, undamaged?}
 
@@ -143,41 +149,69 @@ after_4 t c m next = go (is_lent t m) (is_change c) (encloses t (named c)) (unda
 -- ---- what an update is told
 
 module _ {t p : Prefix} {m : Lent} where
-  -- the code is the number at which the tests stop
-  pub refused_is : {answer : Lent → ℕ} {opening : Tables → Bool} {k : ℕ} {r : Checked} → k ≡ answer m → r.code ≡ k → ¬ (k ≡ 0) → Learnt t p answer opening m r
-  refused_is a e n = record {
-    number = e ∙ a;
-    listed = λ z. absurd (n (sym e ∙ z));
-    place = λ z. absurd (n (sym e ∙ z));
-    blocks = λ z. absurd (n (sym e ∙ z));
-    opens = λ z. absurd (n (sym e ∙ z));
-    segment = λ z. absurd (n (sym e ∙ z));
-  }
+  -- the refusal is that at which the tests stop
+  pub refused_is : {answer : Lent → ℕ} {opening : Tables → Option ℕ} {e : Refusal} → number_of e ≡ answer m → Told t p answer opening m (Err e)
+  refused_is {e = e} a = record { number = a; learnt = λ x q. cc }
+
+  -- nothing refuses, and this is what the tests found
+  pub accepted_is : {answer : Lent → ℕ} {opening : Tables → Option ℕ} {x : Checked} → 0 ≡ answer m → Learnt t p opening m x → Told t p answer opening m (Ok x)
+  accepted_is {opening = opening} {x = x} a l = record { number = a; learnt = λ y q. let e : x ≡ y = cc in subst (Learnt t p opening m) e l }
 
   -- by another name
-  pub learnt_as : {a b : Lent → ℕ} {x y : Tables → Bool} {r : Checked} → Learnt t p a x m r → a m ≡ b m → (r.code ≡ 0 → x m.tables ≡ y m.tables) → Learnt t p b y m r
-  learnt_as k e f = record {
+  pub told_as : {a b : Lent → ℕ} {x y : Tables → Option ℕ} {r : Result Checked Refusal} → Told t p a x m r → a m ≡ b m
+      → ((k : Checked) → r ≡ Ok k → x m.tables ≡ y m.tables) → Told t p b y m r
+  told_as k e f = record {
     number = k.number ∙ e;
-    listed = k.listed;
-    place = k.place;
-    blocks = k.blocks;
-    opens = λ z. k.opens z ∙ f z;
-    segment = k.segment;
+    learnt = λ z q.
+        let l = k.learnt z q in
+        record { listed = l.listed; place = l.place; blocks = l.blocks; segment = l.segment ∙ f z q };
   }
 
--- x is what refusals 1 to 4 answered
-module _ (c : Change) {t p : Prefix} {m : Lent} {x : Checked} (k : Learnt t p (λ n. tested t c n 0) never m x) where
-  pub stays : (next : Lent → ℕ) {opening : Tables → Bool} → ¬ (x.code ≡ 0) → Learnt t p (λ n. tested t c n (next n)) opening m x
-  stays next n =
-      learnt_as k (sym (cond_off (next m) (tested t c m 0) (eqb? (tested t c m 0) 0) (λ z. n (k.number ∙ z))) ∙ after_4 t c m (next m)) (λ z. absurd (n z))
+-- no segment is opened where none is needed
+pub opens_none : (t p : Prefix) (tables : Tables) → needs_segment t p tables ≡ false → never tables ≡ opens_for t p tables
+unfolding opens_for
+opens_none t p tables n = sym (ap (λ (x : Bool). cond x (Some (lowest_free tables.owners)) None) n)
 
-  module _ (zero : x.code ≡ 0) where
+pub opens_one : (t p : Prefix) (tables : Tables) → needs_segment t p tables ≡ true → Some (lowest_free tables.owners) ≡ opens_for t p tables
+unfolding opens_for
+opens_one t p tables n = sym (ap (λ (x : Bool). cond x (Some (lowest_free tables.owners)) None) n)
+
+-- the search for a free segment finds none, or the lowest
+none_picked : (b : Bool) (n : ℕ) → cond b None (Some n) ≡ None → b ≡ true
+none_picked true n e = refl
+none_picked false n e = cc
+
+one_picked : (b : Bool) (n s : ℕ) → cond b None (Some n) ≡ Some s → (b ≡ false) × (n ≡ s)
+one_picked true n s e = cc
+one_picked false n s e = (refl, cc)
+
+pub none_free : (ws : List ℕ) → position (λ w. eqb w 0) ws ≡ None → no_zero ws ≡ true
+none_free ws e = none_picked (no_zero ws) (lowest_free ws) (sym (position_free ws) ∙ e)
+
+pub one_free : (ws : List ℕ) {s : ℕ} → position (λ w. eqb w 0) ws ≡ Some s → (no_zero ws ≡ false) × (lowest_free ws ≡ s)
+one_free ws e = one_picked (no_zero ws) (lowest_free ws) _ (sym (position_free ws) ∙ e)
+
+-- x is what refusals 1 to 4 answered
+module _ (c : Change) {t p : Prefix} {m : Lent} where
+  -- a refusal stands
+  pub stays : {e : Refusal} → Told t p (λ n. tested t c n 0) never m (Err e) → (next : Lent → ℕ) {opening : Tables → Option ℕ}
+      → Told t p (λ n. tested t c n (next n)) opening m (Err e)
+  stays {e} k next =
+      refused_is (k.number ∙ sym (cond_off (next m) (tested t c m 0) (eqb? (tested t c m 0) 0) (λ z. number_not_0 (k.number ∙ z))) ∙ after_4 t c m (next m))
+    where
+      number_not_0 : number_of e ≡ 0 → ⊥
+      number_not_0 z = cc (number_some e, z)
+
+  module _ {x : Checked} (k : Told t p (λ n. tested t c n 0) never m (Ok x)) where
     pub goes_on_lem : {number next : ℕ} → number ≡ next → number ≡ tested t c m next
-    goes_on_lem {next = next} e = e ∙ sym (cond_on next (tested t c m 0) (eqb? (tested t c m 0) 0) (sym k.number ∙ zero)) ∙ after_4 t c m next
+    goes_on_lem {next = next} e = e ∙ sym (cond_on next (tested t c m 0) (eqb? (tested t c m 0) 0) (sym k.number)) ∙ after_4 t c m next
 
     pub let_pass : Admitted t c m
-    let_pass = (tested_0 t c m 0 (sym k.number ∙ zero)).0
+    let_pass = (tested_0 t c m 0 (sym k.number)).0
+
+    pub found : Learnt t p never m x
+    found = k.learnt x refl
 
     -- no room, by the live rules and their number
-    pub full : not x.place.found && eqb x.used (length m.rules) ≡ not (is_live p (routes m.rules)) && no_zero m.rules
-    full = ap₂ (λ (a b : Bool). not a && b) (k.place zero).says_live (all_live m.rules x.used (k.listed zero))
+    pub full : not (is_ok x.place) && eqb x.used (length m.rules) ≡ not (is_live p (routes m.rules)) && no_zero m.rules
+    full = ap₂ (λ (a b : Bool). not a && b) found.place.says_live (all_live m.rules x.used found.listed)

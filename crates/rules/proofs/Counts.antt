@@ -1,22 +1,23 @@
 -- The count of the rules in order from the front: what the loop has shown so far, and that the count with the test of the rest is the
 -- test of the form. Assumes nothing.
 use mathlib.Core.Path.{◌≡◌, sym, ap, subst, ◌∙◌}
-use mathlib.Core.Bool.{Bool, ◌&&◌}
+use mathlib.Core.Bool.{true, false, ◌&&◌}
 use mathlib.Core.List.{List}
 use Prim.Native.Nat.{ℕ, ◌+◌, ◌≤◌, ◌<◌}
 use native.Mathlib.Omega.{arith}
 use lib.Dec.{leb, eqb}
 use lib.ListN.{length, get_or, drop, take}
-use lib.Seq.{length-take-le}
+use lib.Seq.{length-take-le, get_or-take}
 use borrow.Author.Count.{below_more}
 use Rattle.ground.proofs.Cases.{by_lt}
 use Rattle.ground.proofs.Tests.{Decides, leb?, and?, iff?, says, same_test}
 use Rattle.ground.proofs.Members.{mem_index, index_mem}
 use Rattle.prefix.specs.declared.Prefix.{Prefix}
-use Rattle.rules.specs.Words.{is_rule, IsRule}
-use Rattle.rules.specs.Rules.{live_words, every, Formed}
-use Rattle.rules.specs.inner.Places.{prefix_at, key_at}
-use Rattle.rules.specs.inner.Form.{InOrder, CountIs, FormIs}
+use Rattle.prefix.specs.Routes.{IsRoute}
+use Rattle.rules.specs.Words.{route_of, is_rule, IsRule}
+use Rattle.rules.specs.Rules.{live_words, every, formed, Formed}
+use Rattle.rules.specs.inner.Places.{prefix_at, key_at, Ordered}
+use Rattle.rules.specs.inner.Form.{InOrder, CountIs, LiveFront}
 use Rattle.rules.proofs.Words.{some_word, word_order, is_rule?}
 use Rattle.rules.proofs.LiveWords.{live_at, live_first, live-within}
 use Rattle.rules.proofs.Indices.{rise_routes, listed_order}
@@ -106,8 +107,21 @@ module _ {t : Prefix} {ws : List ℕ} {n : ℕ} (c : CountIs t ws n) where
       })))
       (λ h. f.rest i (omega arith))
 
-  pub form_is : {ok : Bool} → ok ≡ every (eqb 0) (drop n ws) → FormIs t ws ok n
-  form_is e = record {
-    test = e ∙ same_test (zeros? ws n) (iff? (formed? t ws) formed_counted counted_formed);
-    count = λ y. length_counted (says (zeros? ws n) (sym e ∙ y));
-  }
+  -- where the test of the words from n on fails, so does that of the form; where it passes, the first n are the live ones
+  rest_is : every (eqb 0) (drop n ws) ≡ formed t ws
+  rest_is = same_test (zeros? ws n) (iff? (formed? t ws) formed_counted counted_formed)
+
+  pub form_fails : every (eqb 0) (drop n ws) ≡ false → formed t ws ≡ false
+  form_fails e = sym rest_is ∙ e
+
+  pub form_holds : every (eqb 0) (drop n ws) ≡ true → LiveFront t ws (take n ws)
+  form_holds e = record { test = sym rest_is ∙ e; front = sym (live_counted (says (zeros? ws n) e)) }
+
+  pub front_ordered : Ordered (take n ws)
+  front_ordered =
+      let size : length (take n ws) ≡ n = length-take-le n ws c.in_order.within in
+      record {
+        rules = λ i l. subst (λ (w : ℕ). IsRoute (route_of w)) (sym (get_or-take n ws i 0 (omega arith))) (c.in_order.rules i (omega arith)).route;
+        order = λ i j ij l.
+            rw (get_or-take n ws i 0 (omega arith), get_or-take n ws j 0 (omega arith)) (c.in_order.order i j ij (omega arith));
+      }

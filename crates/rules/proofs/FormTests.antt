@@ -1,19 +1,19 @@
 -- What the test of the form decides, part by part, and that words of the form are a list of routes. Assumes nothing.
-use mathlib.Core.Path.{◌≡◌, refl, sym, ap, subst, ◌∙◌}
-use mathlib.Core.Bool.{Bool, true, false}
+use mathlib.Core.Path.{◌≡◌, refl, sym, ap, ap₂, subst, ◌∙◌}
+use mathlib.Core.Bool.{Bool, ◌&&◌}
 use mathlib.Core.List.Memᴰ
 use mathlib.Core.List.Memᴰ.{head as here}
 use mathlib.Core.List.Memᴰ.{tail as there}
 use mathlib.Core.List.{List, [], ◌∷◌, map, Memᴰ as Mem}
-use Prim.Native.Nat.{ℕ, ◌+◌, ◌-◌, ◌≤◌, ◌<◌}
-use native.Mathlib.Numerals.{add-one}
+use Prim.Native.Nat.{ℕ, ◌+◌, ◌-◌, ◌≤◌}
 use native.Mathlib.Omega.{arith}
 use lib.Dec.{eqb}
-use lib.ListN.{length, get_or, drop, length-drop, drop_of_length-le, get_or-eq_default}
-use lib.Seq.{drop-cons, get_or-drop}
-use borrow.Author.Tests.{ne_eqb}
+use lib.ListN.{length, get_or, take, drop, length-drop, get_or-eq_default}
+use lib.Seq.{get_or-drop}
+use Rattle.std.specs.List.{list_all}
+use Rattle.std.proofs.lemmas.List.{take_all}
 use Rattle.ground.proofs.Cases.{by_lt}
-use Rattle.ground.proofs.Tests.{Decides, holds, eqb?, and?, iff?}
+use Rattle.ground.proofs.Tests.{Decides, holds, eqb?, and?, iff?, same_test}
 use Rattle.ground.proofs.Members.{mem_index, index_mem}
 use Rattle.prefix.specs.declared.Prefix.{Prefix}
 use Rattle.prefix.specs.Prefixes.{Before}
@@ -57,19 +57,15 @@ zeros? ws n = iff? (every? (λ w. 0 ≡ w) (eqb 0) (eqb? 0) (drop n ws)) to from
         let i = mem_index 0 (drop n ws) m in
         sym (h (n + i.0) (omega arith)) ∙ sym (get_or-drop n ws i.0 0) ∙ i.2
 
--- the same test, a word at a time
-module _ (ws : List ℕ) (i : ℕ) where
-  pub zeros_more : i < length ws → get_or ws i 0 ≡ 0 → every (eqb 0) (drop i ws) ≡ every (eqb 0) (drop (i + 1) ws)
-  unfolding every
-  zeros_more l z = rw (add-one, drop-cons ws i 0, z)
+-- the same test, of a slice of them
+zeros_all : (ws : List ℕ) → list_all (λ w. eqb w 0) ws ≡ every (eqb 0) ws
+unfolding every
+zeros_all [] = refl
+zeros_all (w ∷ ws) = ap₂ (λ (a b : Bool). a && b) (same_test (eqb? w 0) (iff? (eqb? 0 w) sym sym)) (zeros_all ws)
 
-  pub zeros_stop : i < length ws → (get_or ws i 0 ≡ 0 → ⊥) → every (eqb 0) (drop i ws) ≡ false
-  unfolding every
-  zeros_stop l n = rw (drop-cons ws i 0, ne_eqb 0 (get_or ws i 0) (λ e. n (sym e)))
-
-  pub zeros_end : length ws ≤ i → every (eqb 0) (drop i ws) ≡ true
-  unfolding every
-  zeros_end l = rw (drop_of_length-le ws)
+pub zeros_rest : (ws : List ℕ) (n : ℕ) → list_all (λ w. eqb w 0) (take (length ws - n) (drop n ws)) ≡ every (eqb 0) (drop n ws)
+zeros_rest ws n =
+    ap (list_all (λ w. eqb w 0)) (take_all (length ws - n) (drop n ws) (omega (arith, length-drop n ws))) ∙ zeros_all (drop n ws)
 
 -- ---- the order
 

@@ -1,19 +1,14 @@
 // The form of the lent words: rules of the territory first, in order, and 0 after them.
-ghost use Rattle.std.specs.Prelude.{◌≡◌, ◌&&◌, ◌≤◌, leb, eqb, length, drop};
+ghost use Rattle.std.specs.Prelude.{◌≡◌, false, ◌&&◌, leb, ◌==◌, MatchOption};
+ghost use Rattle.std.specs.List.{list_all};
 ghost use Rattle.prefix.specs.Geometry.{Territory};
 ghost use Rattle.rules.specs.Words.{prefix_of, key_of, is_rule};
-ghost use Rattle.rules.specs.Rules.{every};
-ghost use Rattle.rules.specs.inner.Form.{CountIs, FormIs};
+ghost use Rattle.rules.specs.Rules.{formed};
+ghost use Rattle.rules.specs.inner.Form.{CountIs, LiveFront};
 
+use crate::live::Live;
 use crate::word::Rule;
 use prefix::Prefix;
-
-// Whether the words have their form, and how many are live if they have.
-#[derive(Clone, Copy)]
-pub struct Form {
-    pub formed: bool,
-    pub used: usize,
-}
 
 // Whether the word is a rule of the territory and its key is at least `low`.
 fn is_next(word: u64, low: u64, territory: Prefix) -> bool
@@ -31,41 +26,34 @@ fn rules_in_order(rules: &[u64], territory: Prefix) -> usize
     requires { Territory territory }
     ensures { CountIs territory rules.now result }
 {
-    let mut i = 0;
     let mut low: u64 = 0;
-    while i < rules.len() {
-        let word = rules[i];
-        let next = is_next(word, low, territory);
-        if !next {
+    for (i, word) in rules.iter().enumerate() {
+        if !is_next(*word, low, territory) {
             return i;
         }
-        low = Rule::key(word) + 1;
-        i += 1;
+        low = Rule::key(*word) + 1;
     }
-    i
+    rules.len()
 }
 
-// Whether every word from index `from` on is 0.
-fn rest_zero(rules: &[u64], from: usize) -> bool
-    requires { from ≤ length rules.now }
-    ensures { result ≡ every (eqb 0) (drop from rules.now) }
+// Whether every word is 0.
+fn all_zero(words: &[u64]) -> bool
+    ensures { result ≡ list_all (λ word. word == 0) words.now }
 {
-    let mut i = from;
-    while i < rules.len() {
-        if rules[i] != 0 {
-            return false;
-        }
-        i += 1;
-    }
-    true
+    words.iter().all(|word| *word == 0)
 }
 
-// One pass over the words: a word of 0 is no rule, so the rules in order are the live words exactly if all after them are 0.
-pub fn form_of(rules: &[u64], territory: Prefix) -> Form
+// The live words, if the lent ones have their form. One pass over them: a word of 0 is no rule, so the rules in order are the live words
+// exactly if all after them are 0.
+pub fn form_of<'a>(rules: &'a [u64], territory: Prefix) -> Option<Live<'a>>
     requires { Territory territory }
-    ensures { FormIs territory rules.now result.formed result.used }
+    ensures { MatchOption result (formed territory rules.now ≡ false) (λ live. LiveFront territory rules.now live.words.now) }
 {
     let used = rules_in_order(rules, territory);
-    let formed = rest_zero(rules, used);
-    Form { formed, used }
+    if !all_zero(&rules[used..]) {
+        return None;
+    }
+    Some(Live {
+        words: &rules[..used],
+    })
 }

@@ -4,4 +4,5 @@
 pub mod blocks;
 pub mod form;
 pub mod list;
+pub mod live;
 pub mod word;

@@ -1,82 +1,64 @@
 // The live words as an ordered list: a prefix found, put in and taken out.
-ghost use Rattle.std.specs.Prelude.{◌≡◌, true, false, ◌≤◌, ◌<◌, length};
+ghost use Rattle.std.specs.Prelude.{◌≡◌, true, false, ◌≤◌, ◌<◌, length, is_ok};
 ghost use Rattle.prefix.specs.Prefixes.{WellFormed};
 ghost use Rattle.prefix.specs.Routes.{IsRoute, with_route, without};
 ghost use Rattle.rules.specs.Words.{route_by};
 ghost use Rattle.rules.specs.Rules.{routes, words_of};
-ghost use Rattle.rules.specs.inner.Places.{Listed, Bracket, PositionIs, PlaceIs, inserted_at, removed_at};
+ghost use Rattle.rules.specs.inner.Places.{Listed, Bracket, PositionIs, PlaceIs, index_of, inserted_at, removed_at};
 
+use crate::live::Live;
 use crate::word::Rule;
 use prefix::Prefix;
 
-// Where a prefix stands among the live words, or would stand, and whether it is live.
-#[derive(Clone, Copy)]
-pub struct Place {
-    pub at: usize,
-    pub found: bool,
-}
+impl<'a> Live<'a> {
+    // The first index whose key is at least `key`, or how many words there are, known to be in from..=to.
+    fn between(self, key: u64, from: usize, to: usize) -> usize
+        requires { Bracket self.words.now (length self.words.now) key from to }
+        ensures { PositionIs self.entry.words.now (length self.entry.words.now) key result }
+    {
+        from + self.words[from..to].partition_point(|word| Rule::key(*word) < key)
+    }
 
-// The first index among the live words whose key is at least `key`, or their number, known to be in from..=to. The range is halved at
-// each turn.
-fn between(rules: &[u64], used: usize, key: u64, from: usize, to: usize) -> usize
-    requires listed { Listed rules.now used }
-    requires bracket { Bracket rules.now used key from to }
-    ensures { PositionIs rules.now used key result }
-{
-    let mut low = from;
-    let mut high = to;
-    while low < high {
-        let middle = low + (high - low) / 2;
-        if Rule::key(rules[middle]) < key {
-            low = middle + 1;
+    // That index, of which nothing is known.
+    pub fn position(self, key: u64) -> usize
+        ensures { PositionIs self.entry.words.now (length self.entry.words.now) key result }
+    {
+        self.between(key, 0, self.words.len())
+    }
+
+    // That index, known to be `from` or before, and mostly not far: looked for backwards from there in growing strides.
+    pub fn position_before(self, key: u64, from: usize) -> usize
+        requires { Bracket self.words.now (length self.words.now) key 0 from }
+        ensures { PositionIs self.entry.words.now (length self.entry.words.now) key result }
+    {
+        let mut high = from;
+        let mut stride = 1;
+        while stride <= high {
+            let at = high - stride;
+            if Rule::key(self.words[at]) < key {
+                return self.between(key, at + 1, high);
+            }
+            high = at;
+            stride += stride;
+        }
+        self.between(key, 0, high)
+    }
+
+    // Where the word of a live prefix stands, or, as an `Err`, where that of one that is not live would.
+    pub fn find(self, prefix: Prefix) -> Result<usize, usize>
+        requires { WellFormed prefix }
+        ensures { PlaceIs self.entry.words.now (length self.entry.words.now) prefix (index_of result) (is_ok result) }
+    {
+        let key = Rule::key_of(prefix);
+        let at = self.position(key);
+        if at == self.words.len() {
+            return Err(at);
+        }
+        if Rule::key(self.words[at]) == key {
+            Ok(at)
         } else {
-            high = middle;
+            Err(at)
         }
-    }
-    low
-}
-
-// That index, of which nothing is known.
-pub fn position(rules: &[u64], used: usize, key: u64) -> usize
-    requires { Listed rules.now used }
-    ensures { PositionIs rules.now used key result }
-{
-    between(rules, used, key, 0, used)
-}
-
-// That index, known to be `from` or before, and mostly not far: looked for backwards from there in growing strides.
-pub fn position_before(rules: &[u64], used: usize, key: u64, from: usize) -> usize
-    requires listed { Listed rules.now used }
-    requires bracket { Bracket rules.now used key 0 from }
-    ensures { PositionIs rules.now used key result }
-{
-    let mut high = from;
-    let mut stride = 1;
-    while stride <= high {
-        let at = high - stride;
-        if Rule::key(rules[at]) < key {
-            return between(rules, used, key, at + 1, high);
-        }
-        high = at;
-        stride += stride;
-    }
-    between(rules, used, key, 0, high)
-}
-
-// The place of a prefix.
-pub fn find(rules: &[u64], used: usize, prefix: Prefix) -> Place
-    requires listed { Listed rules.now used }
-    requires well_formed { WellFormed prefix }
-    ensures { PlaceIs rules.now used prefix result.at result.found }
-{
-    let key = Rule::key_of(prefix);
-    let at = position(rules, used, key);
-    if at == used {
-        return Place { at, found: false };
-    }
-    Place {
-        at,
-        found: Rule::key(rules[at]) == key,
     }
 }
 
@@ -85,11 +67,8 @@ fn insert_at(rules: &mut [u64], used: usize, at: usize, word: u64)
     requires { (at ≤ used) × (used < length rules.old) }
     ensures { rules.new ≡ inserted_at rules.old used at word }
 {
-    let mut i = used;
-    while at < i {
-        let moved = rules[i - 1];
-        rules[i] = moved;
-        i -= 1;
+    for i in (at..used).rev() {
+        rules[i + 1] = rules[i];
     }
     rules[at] = word;
 }
@@ -99,40 +78,34 @@ fn remove_at(rules: &mut [u64], used: usize, at: usize)
     requires { (at < used) × (used ≤ length rules.old) }
     ensures { rules.new ≡ removed_at rules.old used at }
 {
-    let mut i = at;
-    while i < used - 1 {
-        let next = rules[i + 1];
-        rules[i] = next;
-        i += 1;
+    for i in at..used - 1 {
+        rules[i] = rules[i + 1];
     }
-    rules[i] = 0;
+    rules[used - 1] = 0;
 }
 
 // Makes a prefix live with a hop, at the place that `find` answered: in the place of its word if it is live, else between the others,
 // for which one word must be free.
-pub fn put(rules: &mut [u64], used: usize, place: Place, prefix: Prefix, hop: u32)
+pub fn put(rules: &mut [u64], used: usize, place: Result<usize, usize>, prefix: Prefix, hop: u32)
     requires listed { Listed rules.old used }
-    requires place_is { PlaceIs rules.old used prefix place.at place.found }
+    requires place_is { PlaceIs rules.old used prefix (index_of place) (is_ok place) }
     requires route { IsRoute (route_by prefix hop) }
-    requires room { place.found ≡ false → used < length rules.old }
+    requires room { is_ok place ≡ false → used < length rules.old }
     ensures { rules.new ≡ words_of (length rules.old) (with_route (route_by prefix hop) (routes rules.old)) }
 {
-    let at = place.at;
     let word = Rule::pack(prefix, hop);
-    if place.found {
-        rules[at] = word;
-        return;
+    match place {
+        Ok(at) => rules[at] = word,
+        Err(at) => insert_at(rules, used, at, word),
     }
-    insert_at(rules, used, at, word);
 }
 
-// Takes a live prefix out, at the place that `find` answered.
-pub fn take_out(rules: &mut [u64], used: usize, place: Place, prefix: Prefix)
+// Takes a live prefix out, at the index that `find` answered.
+pub fn take_out(rules: &mut [u64], used: usize, at: usize, prefix: Prefix)
     requires listed { Listed rules.old used }
     requires well_formed { WellFormed prefix }
-    requires place_is { PlaceIs rules.old used prefix place.at place.found }
-    requires is_found { place.found ≡ true }
+    requires place_is { PlaceIs rules.old used prefix at true }
     ensures { rules.new ≡ words_of (length rules.old) (without prefix (routes rules.old)) }
 {
-    remove_at(rules, used, place.at);
+    remove_at(rules, used, at);
 }

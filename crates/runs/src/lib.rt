@@ -1,18 +1,18 @@
-// The longest match of an address in the rule words, with the run of addresses that share it: by a search for the address itself, and a
+// The longest match of an address in the live words, with the run of addresses that share it: by a search for the address itself, and a
 // step up for each rule on the way that ends before the address, each looking backwards from the last, so that no pass over the words is
 // needed.
 #![tactic(auto)]
 
-ghost use Rattle.std.specs.Prelude.{◌≡◌, ◌+◌, ◌<◌, ◌≤◌};
-ghost use Rattle.prefix.specs.Routes.{IsRoute};
+ghost use Rattle.std.specs.Prelude.{◌≡◌, ◌+◌, ◌<◌, ◌≤◌, length, MatchOption};
+ghost use Rattle.prefix.specs.Routes.{IsLongest};
 ghost use Rattle.rules.specs.Words.{route_of, key_of};
 ghost use Rattle.rules.specs.Rules.{routes};
-ghost use Rattle.rules.specs.inner.Places.{Listed, Bracket};
-ghost use Rattle.runs.specs.inner.Kept.{RunIs};
-ghost use Rattle.runs.specs.inner.Steps.{around, CountUpTo, match_or_none, SharedIs, ClimbIs, NextIs, LowerIs, MatchRunIs};
+ghost use Rattle.runs.specs.inner.Kept.{Holds, RunIs};
+ghost use Rattle.runs.specs.inner.Steps.{around, CountUpTo, SharedIs, NextIs, Matchless};
 
 use cells::cell::Cell;
 use prefix::{Prefix, span_of};
+use rules::live::Live;
 use rules::word::Rule;
 
 pub mod onward;
@@ -31,6 +31,7 @@ pub struct Run {
 }
 
 // The lowest key past the prefix of this length around the address.
+#[tactic(auto, using(rules::proofs::Words::key_room))]
 fn key_past(address: u32, length: u32) -> u64
     requires { length ≤ 32 }
     ensures { result ≡ key_of (around length address) + 1 }
@@ -42,118 +43,83 @@ fn key_past(address: u32, length: u32) -> u64
     Rule::key_of(around) + 1
 }
 
-// How many of the live words are up to the address itself.
-fn up_to(rules: &[u64], used: usize, address: u32) -> usize
-    requires { Listed rules.now used }
-    ensures { CountUpTo rules.now used 32 address result }
-{
-    rules::list::position(rules, used, key_past(address, 32))
-}
-
-// How many of the first `from` live words are up to the prefix of this length around the address; the others are past it.
-fn up_to_before(rules: &[u64], used: usize, address: u32, length: u32, from: usize) -> usize
-    requires listed { Listed rules.now used }
-    requires length_fits { length ≤ 32 }
-    requires bracket { Bracket rules.now used (key_of (around length address) + 1) 0 from }
-    ensures { CountUpTo rules.now used length address result }
-{
-    rules::list::position_before(rules, used, key_past(address, length), from)
-}
-
 // How many leading bits the two addresses share, of fewer than `limit`.
 fn shared(address: u32, other: u32, limit: u32) -> u32
     requires { (0 < limit) × (limit ≤ 32) }
     ensures { SharedIs address other limit result }
 {
-    let bits = u32::leading_zeros(other ^ address);
-    if bits < limit {
-        return bits;
-    }
-    limit - 1
+    (other ^ address).leading_zeros().min(limit - 1)
 }
 
-// Whether no word is left, or the last of the first `i` contains the address.
-fn is_match_or_none(rules: &[u64], used: usize, address: u32, i: usize) -> bool
-    requires listed { Listed rules.now used }
-    requires in_list { i ≤ used }
-    ensures { result ≡ match_or_none rules.now address i }
-{
-    if i == 0 {
-        return true;
-    }
-    let word = rules[i - 1];
-    let prefix = Rule::prefix(word);
-    prefix.contains(address)
+// An address among the live words, and how many of them are up to it.
+#[derive(Clone, Copy)]
+struct Place<'a> {
+    live: Live<'a>,
+    address: u32,
+    at: usize,
+    ghost counted: { CountUpTo live.words.now (length live.words.now) 32 address at },
 }
 
-// How many of the live words are up to the longest match of the address, 0 if there is none; `first` are up to the address itself. A last
-// word that does not contain the address leaves only the shorter prefixes that contain both it and the address.
-fn climb(rules: &[u64], used: usize, address: u32, first: usize) -> usize
-    requires listed { Listed rules.now used }
-    requires count_up_to { CountUpTo rules.now used 32 address first }
-    ensures { ClimbIs rules.now used address result }
-{
-    let mut length = 32;
-    let mut i = first;
-    while !is_match_or_none(rules, used, address, i) {
-        length = shared(address, Rule::address(rules[i - 1]), length);
-        i = up_to_before(rules, used, address, length, i);
+impl<'a> Place<'a> {
+    // The word of the longest match. A last word that does not contain the address leaves only the shorter prefixes that contain both it
+    // and the address.
+    fn climb(self) -> Option<u64>
+        ensures { MatchOption result (Matchless (routes self.entry.live.words.now) self.entry.address)
+            (λ word. IsLongest (routes self.entry.live.words.now) self.entry.address (route_of word)) }
+    {
+        let mut length = 32;
+        let mut count = self.at;
+        while let Some(word) = self.live.words[..count].last() {
+            let prefix = Rule::prefix(*word);
+            if prefix.contains(self.address) {
+                return Some(*word);
+            }
+            length = shared(self.address, prefix.address, length);
+            let key = key_past(self.address, length);
+            count = self.live.position_before(key, count);
+        }
+        None
     }
-    i
-}
 
-// Where the next rule after the address starts, or the number of addresses; `first` of the live words are up to the address.
-fn next(rules: &[u64], used: usize, address: u32, first: usize) -> u64
-    requires listed { Listed rules.now used }
-    requires count_up_to { CountUpTo rules.now used 32 address first }
-    ensures { NextIs (routes rules.now) address result }
-{
-    if first == used {
-        return ADDRESSES;
+    // Where the next rule starts, or the number of addresses.
+    fn next(self) -> u64
+        ensures { NextIs (routes self.entry.live.words.now) self.entry.address result }
+    {
+        match self.live.words.get(self.at) {
+            Some(word) => Rule::address(*word) as u64,
+            None => ADDRESSES,
+        }
     }
-    Rule::address(rules[first]) as u64
-}
 
-// The lower of the two.
-fn lower(a: u64, b: u64) -> u64
-    ensures { LowerIs a b result }
-{
-    if a < b {
-        return a;
-    }
-    b
-}
-
-// The run of a match: to the end of its prefix, and no further than `limit`.
-fn run_of(word: u64, limit: u64, at: usize) -> Run
-    requires { IsRoute (route_of word) }
-    ensures { MatchRunIs word limit at result.cell result.end result.until result.at }
-{
-    let length = Rule::length(word);
-    let until = Rule::address(word) as u64 + span_of(length);
-    Run {
-        cell: Cell::pack(Rule::hop(word), length),
-        end: lower(limit, until),
-        until,
-        at,
+    // The run of a cell that holds before `until`, up to the next rule.
+    fn run(self, cell: u32, until: u64) -> Run
+        requires { Holds self.live.words.now (length self.live.words.now) self.address cell until self.at }
+        ensures { RunIs self.entry.live.words.now (length self.entry.live.words.now) self.entry.address result }
+    {
+        Run {
+            cell,
+            end: self.next().min(until),
+            until,
+            at: self.at,
+        }
     }
 }
 
-// The longest match of an address among the first `used` words, and its run.
-pub fn longest(rules: &[u64], used: usize, address: u32) -> Run
-    requires { Listed rules.now used }
-    ensures { RunIs rules.now used address result }
+// The longest match of an address among the live words, and its run.
+pub fn longest(live: Live, address: u32) -> Run
+    ensures { RunIs live.entry.words.now (length live.entry.words.now) address result }
 {
-    let first = up_to(rules, used, address);
-    let limit = next(rules, used, address, first);
-    let i = climb(rules, used, address, first);
-    if i == 0 {
-        return Run {
-            cell: Cell::EMPTY,
-            end: limit,
-            until: ADDRESSES,
-            at: first,
-        };
+    let place = Place {
+        live,
+        address,
+        at: live.position(key_past(address, 32)),
+    };
+    match place.climb() {
+        Some(word) => {
+            let length = Rule::length(word);
+            let cell = Cell::pack(Rule::hop(word), length);
+            place.run(cell, Rule::address(word) as u64 + span_of(length))
+        }
+        None => place.run(Cell::EMPTY, ADDRESSES),
     }
-    run_of(rules[i - 1], limit, first)
 }

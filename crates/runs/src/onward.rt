@@ -1,62 +1,44 @@
 // From a run to that of a later address. Past a run's end mostly the match that covered the rules there simply holds again: those that
 // started since are skipped if they ended too, and only where one has not is the longest match searched for.
-ghost use Rattle.rules.specs.inner.Places.{Listed};
+ghost use Rattle.std.specs.Prelude.{IfSome, length};
 ghost use Rattle.runs.specs.inner.Kept.{Started, Covers, RunIs};
 ghost use Rattle.runs.specs.inner.Steps.{SkippedIs};
 
-use crate::Run;
+use crate::{Place, Run, longest};
+use rules::live::Live;
 use rules::word::Rule;
 
-// How many of the live words start at an address or before, if those that were looked at do not contain it.
-#[derive(Clone, Copy)]
-struct Ended {
-    at: usize,
-    clear: bool,
-}
-
-// Skips the words from index `from` on that start at the address or before, up to one that contains it.
-fn skip_ended(rules: &[u64], used: usize, from: usize, address: u32) -> Ended
-    requires listed { Listed rules.now used }
-    requires started { Started rules.now used address from }
-    ensures { SkippedIs rules.now used address from result.at result.clear }
+// How many of the live words start at the address or before, if none of those from index `from` on contains it.
+fn skip_ended(live: Live, from: usize, address: u32) -> Option<usize>
+    requires { Started live.words.now (length live.words.now) address from }
+    ensures { IfSome result (λ at. SkippedIs live.entry.words.now (length live.entry.words.now) address from at) }
 {
-    let mut i = from;
-    while i < used {
-        let word = rules[i];
-        let prefix = Rule::prefix(word);
+    let words = live.words;
+    for i in from..words.len() {
+        let prefix = Rule::prefix(words[i]);
         if address < prefix.address {
-            return Ended { at: i, clear: true };
+            return Some(i);
         }
         if prefix.contains(address) {
-            return Ended {
-                at: i,
-                clear: false,
-            };
+            return None;
         }
-        i += 1;
     }
-    Ended { at: i, clear: true }
+    Some(words.len())
 }
 
-// The longest match of the address and its run, by that of an earlier address: its cell holds again if its prefix reaches the address
-// and no rule that started since contains it.
-pub fn asked(rules: &[u64], used: usize, address: u32, cell: u32, until: u64, at: usize) -> Run
-    requires listed { Listed rules.now used }
-    requires covers { Covers rules.now used address cell until at }
-    ensures { RunIs rules.now used address result }
-{
-    if until <= address as u64 {
-        return crate::longest(rules, used, address);
-    }
-    let skipped = skip_ended(rules, used, at, address);
-    if !skipped.clear {
-        return crate::longest(rules, used, address);
-    }
-    let at = skipped.at;
-    Run {
-        cell,
-        end: crate::lower(crate::next(rules, used, address, at), until),
-        until,
-        at,
+impl Run {
+    // The longest match of a later address and its run: the cell holds again if its prefix reaches the address and no rule that started
+    // since contains it.
+    pub fn asked(self, live: Live, address: u32) -> Run
+        requires { Covers live.words.now (length live.words.now) address self.cell self.until self.at }
+        ensures { RunIs live.entry.words.now (length live.entry.words.now) address result }
+    {
+        if self.until <= address as u64 {
+            return longest(live, address);
+        }
+        match skip_ended(live, self.at, address) {
+            Some(at) => Place { live, address, at }.run(self.cell, self.until),
+            None => longest(live, address),
+        }
     }
 }

@@ -1,18 +1,18 @@
 -- When the sheet is refused: what its tests decide, and the outcome of each way out. Assumes nothing.
-use mathlib.Core.Path.{◌≡◌, refl, sym, ◌∙◌}
+use mathlib.Core.Path.{◌≡◌, refl, sym, ap, ◌∙◌}
 use mathlib.Core.Bool.{◌&&◌}
 use mathlib.Core.List.{List, [], ◌∷◌}
 use Prim.Native.Nat.{ℕ, zero, suc, ◌+◌, ◌-◌, ◌≤◌, ◌<◌, zero-le}
 use native.Mathlib.Omega.{arith}
-use lib.Dec.{eqb, lit<}
-use lib.ListN.{length, get_or, drop, get_or-eq_default}
+use lib.Dec.{eqb, leb, lit<}
+use lib.ListN.{length, get_or, drop}
 use lib.Seq.{get_or-drop}
 use Rattle.prefix.specs.Routes.{last_hop}
 use Rattle.octets.specs.Words.{word_count, most}
-use Rattle.ground.proofs.Cases.{by_eq}
 use Rattle.ground.proofs.Tests.{Decides, holds, leb?, eqb?, and?, iff?, cond_on, cond_off, by_test}
 use Rattle.costs.specs.Ranks.{Sound}
 use Rattle.sheet.specs.Sheet.{Ranked, within, sheet_code, SheetIs}
+use Rattle.std.specs.List.{list_all}
 use Rattle.sheet.proofs.Heaps.{place}
 
 -- ---- the words
@@ -21,16 +21,11 @@ use Rattle.sheet.proofs.Heaps.{place}
 abbrev pub Small : ℕ → List ℕ → Type 0
 Small from words = (k : ℕ) → from ≤ k → get_or words k 0 ≤ most
 
--- past the end there is none
-pub small_end : (words : List ℕ) (n : ℕ) → length words ≤ n → Small n words
-small_end words n h = λ k l. omega (arith, get_or-eq_default words 0 (past k l))
-  where
-    past : (k : ℕ) → n ≤ k → length words ≤ k
-    past k l = omega arith
-
--- one more
-pub small_more : (words : List ℕ) (n i : ℕ) → Small n words → n ≡ i + 1 → get_or words i 0 ≤ most → Small i words
-small_more words n i s e h = λ k l. by_eq k i (λ f. omega (arith, place words k i f)) (λ d. s k (omega arith))
+-- as the library's test of all words
+pub within_all : (words : List ℕ) → within words ≡ list_all (λ w. leb w most) words
+unfolding within
+within_all [] = refl
+within_all (w ∷ ws) = ap (λ t. leb w most && t) (within_all ws)
 
 all_within? : (words : List ℕ) → Decides ((k : ℕ) → get_or words k 0 ≤ most) (within words)
 unfolding within

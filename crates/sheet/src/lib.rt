@@ -1,55 +1,57 @@
 // The cost sheet: the hops from 1 to 32,767, dearest first.
 #![tactic(auto)]
 
-ghost use Rattle.std.specs.Prelude.{◌≡◌, drop};
-ghost use Rattle.sheet.specs.Sheet.{within, SheetIs};
+ghost use Rattle.ground.specs.Refusals.{code_of};
+ghost use Rattle.std.specs.Prelude.{◌≡◌, length, drop};
+ghost use Rattle.prefix.specs.Routes.{last_hop};
+ghost use Rattle.sheet.specs.Sheet.{Hops, within, SheetIs};
 
 mod heap;
 mod quick;
 
+use costs::ledger::Ledger;
+use ground::refusal::Refusal;
 use octets::words::Words;
+use prefix::LAST_HOP;
 
 // Whether no word from an index on has passed 2^53.
 fn within(words: &[u64], from: usize) -> bool
     ensures { result ≡ within (drop from words.now) }
 {
-    let mut i = words.len();
-    while from < i {
-        i -= 1;
-        if Words::MOST < words[i] {
-            return false;
-        }
+    words.iter().skip(from).all(|word| *word <= Words::MOST)
+}
+
+// hops[i] = i + 1
+#[tactic(auto, using(crate::proofs::Counts::numbered))]
+fn number(hops: &mut [u32])
+    requires { length hops.old ≡ last_hop }
+    ensures { Hops hops.new }
+{
+    for i in 0..LAST_HOP {
+        hops[i as usize] = i + 1;
     }
-    true
 }
 
 // Fills the room with the hops in order of cost, or answers refusal 1, 30 or 31.
-pub fn cost_sheet(octets: &[u64], cents: &[u64], hops: &mut [u32]) -> u32
-    ensures { SheetIs octets.now cents.now hops.old result hops.new }
+#[tactic(auto, unfolding(crate::specs::Sheet::sheet_code))]
+pub fn cost_sheet(octets: &[u64], cents: &[u64], hops: &mut [u32]) -> Result<(), Refusal>
+    ensures { SheetIs octets.now cents.now hops.old (code_of result) hops.new }
 {
-    if octets.len() != Words::COUNT {
-        return 1;
-    }
-    if cents.len() != Words::COUNT {
-        return 1;
-    }
-    if hops.len() != Words::HOPS {
-        return 1;
+    if octets.len() != Words::COUNT || cents.len() != Words::COUNT || hops.len() != Words::HOPS {
+        return Err(Refusal::WrongSizes);
     }
     if !within(octets, 0) {
-        return 30;
+        return Err(Refusal::TooManyOctets);
     }
     // Word 0 of the cents is no hop's, and is not read.
     if !within(cents, 1) {
-        return 31;
+        return Err(Refusal::TooManyCents);
     }
-    heap::number(hops);
+    let ledger = Ledger { octets, cents };
+    number(hops);
     // Quick sort is the faster. Where it would go too deep, heap sort does it all, so that no words make the call slow.
-    let sorted = quick::sort(octets, cents, hops, 0, Words::HOPS, 48);
-    if sorted {
-        return 0;
+    if !quick::sort(ledger, hops, 48) {
+        heap::sort(ledger, hops);
     }
-    heap::build(octets, cents, hops);
-    heap::drain(octets, cents, hops);
-    0
+    Ok(())
 }

@@ -7,45 +7,24 @@ ghost use Rattle.cells.specs.Memory.{tables_of};
 ghost use Rattle.tables.specs.Cellwise.{paint_cell, repainted};
 ghost use Rattle.tables.specs.Changes.{opened_at, closed_at, left, leaves};
 ghost use Rattle.tables.specs.inner.Ready.{Openable, Closable};
-ghost use Rattle.tables.specs.inner.Ranges.{Within, InSegment, RunChanged, two_values};
+ghost use Rattle.tables.specs.inner.Ranges.{InSegment, RunChanged, two_values};
 
+use crate::change::{change_run, differ};
 use crate::{paint, place};
 use cells::cell::Cell;
 use prefix::Prefix;
 use prefix::geometry::Block;
+use std::ops::Range;
 
-// Fills the cells from..to with a value, and returns how many differ.
-fn fill_run(cells: &mut [u32], from: usize, to: usize, value: u32) -> u32
-    requires { Within from to cells.old }
-    ensures { RunChanged (λ i x. value) from to cells.old cells.new result }
+// Fills the segment that starts at `at`: the cells of a run in it with one value, those around them with another.
+fn fill_segment(cells: &mut [u32], at: usize, run: Range<usize>, inside: u32, around: u32) -> u32
+    requires { InSegment at run.start run.end cells.old }
+    ensures { RunChanged (λ i x. two_values run.start run.end inside around i) at (at + block_size) cells.old cells.new result }
 {
-    let mut changed: u32 = 0;
-    let mut i = from;
-    while i < to {
-        let old = cells[i];
-        cells[i] = value;
-        changed += paint::differ(old, value);
-        i += 1;
-    }
-    changed
-}
-
-// Fills the segment that starts at `at`: the cells from..to with one value, those around them with another.
-fn fill_segment(
-    cells: &mut [u32],
-    at: usize,
-    from: usize,
-    to: usize,
-    inside: u32,
-    around: u32,
-) -> u32
-    requires { InSegment at from to cells.old }
-    ensures { RunChanged (λ i x. two_values from to inside around i) at (at + block_size)
-        cells.old cells.new result }
-{
-    let before = fill_run(cells, at, from, around);
-    let within = fill_run(cells, from, to, inside);
-    let after = fill_run(cells, to, at + Block::CELLS, around);
+    let end = run.end;
+    let before = change_run(cells, at..run.start, |_| around);
+    let within = change_run(cells, run, |_| inside);
+    let after = change_run(cells, end..at + Block::CELLS, |_| around);
     before + within + after
 }
 
@@ -70,8 +49,8 @@ pub fn open_and_paint(
     let cell = first[block];
     let painted = paint::paint_cell(cell, new, prefix.length);
     let at = place::segment_start(segment);
-    let range = place::prefix_cells(segment, prefix);
-    let changed = fill_segment(long, at, range.from, range.to, painted, cell);
+    let run = place::prefix_cells(segment, prefix);
+    let changed = fill_segment(long, at, run, painted, cell);
     first[block] = Cell::point_to(segment);
     owners[segment] = block as u32 + 1;
     changed + 1
@@ -94,9 +73,9 @@ pub fn close(
 {
     let pointer = first[block];
     let segment = Cell::segment(pointer);
-    let range = place::segment_cells(pointer);
-    let changed = fill_run(long, range.from, range.to, Cell::EMPTY);
+    let run = place::segment_cells(pointer);
+    let changed = change_run(long, run, |_| Cell::EMPTY);
     owners[segment] = 0;
     first[block] = cell;
-    changed + paint::differ(pointer, cell)
+    changed + differ(pointer, cell)
 }

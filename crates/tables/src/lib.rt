@@ -5,6 +5,7 @@
 // are handed down also where only a contract speaks of them: the language has no parameter that is there for a contract alone.
 #![tactic(auto)]
 
+pub mod change;
 pub mod fill;
 pub mod paint;
 pub mod place;

@@ -1,13 +1,13 @@
 // Painting: announce and re-home put a new cell in the place of each cell of a prefix that is 0 or at most as long as the prefix.
 ghost use Rattle.std.specs.Prelude.{◌≡◌, ◌+◌};
-ghost use Rattle.ground.specs.Lists.{differs};
 ghost use Rattle.prefix.specs.Geometry.{touched};
 ghost use Rattle.cells.specs.Memory.{tables_of};
 ghost use Rattle.tables.specs.Cellwise.{paint_cell, repainted};
 ghost use Rattle.tables.specs.Changes.{left, leaves};
 ghost use Rattle.tables.specs.inner.Ready.{Repaintable};
-ghost use Rattle.tables.specs.inner.Ranges.{Within, RunChanged, BlocksReady, BlocksChanged};
+ghost use Rattle.tables.specs.inner.Ranges.{BlocksReady, BlocksChanged};
 
+use crate::change::{change_run, differ};
 use crate::place;
 use cells::cell::Cell;
 use prefix::Prefix;
@@ -26,30 +26,6 @@ pub fn paint_cell(old: u32, new: u32, length: u32) -> u32
     old
 }
 
-// 1 where the two cells differ, else 0.
-pub fn differ(a: u32, b: u32) -> u32
-    ensures { result ≡ differs a b }
-{
-    if a == b { 0 } else { 1 }
-}
-
-// Paints the cells from..to, and returns how many differ.
-fn paint_run(cells: &mut [u32], from: usize, to: usize, new: u32, length: u32) -> u32
-    requires { Within from to cells.old }
-    ensures { RunChanged (λ i. paint_cell length new) from to cells.old cells.new result }
-{
-    let mut changed: u32 = 0;
-    let mut i = from;
-    while i < to {
-        let old = cells[i];
-        let next = paint_cell(old, new, length);
-        cells[i] = next;
-        changed += differ(old, next);
-        i += 1;
-    }
-    changed
-}
-
 // Paints the segment that the block's first cell points to, or else that cell.
 fn paint_block(
     first: &mut [u32],
@@ -66,8 +42,8 @@ fn paint_block(
 {
     let cell = first[block];
     if Cell::is_pointer(cell) {
-        let range = place::segment_cells(cell);
-        return paint_run(long, range.from, range.to, new, length);
+        let run = place::segment_cells(cell);
+        return change_run(long, run, |old| paint_cell(old, new, length));
     }
     let next = paint_cell(cell, new, length);
     first[block] = next;
@@ -89,11 +65,9 @@ fn paint_blocks(
     ensures { BlocksChanged territory (λ a. paint_cell length new) from to (tables_of first.old long.old owners.now)
         first.new long.new result }
 {
-    let mut changed: u32 = 0;
-    let mut block = from;
-    while block < to {
+    let mut changed = 0;
+    for block in from..to {
         changed += paint_block(first, long, owners, territory, block, new, length);
-        block += 1;
     }
     changed
 }
@@ -119,6 +93,6 @@ pub fn paint(
         let to = block + blocks.count;
         return paint_blocks(first, long, owners, territory, block, to, new, length);
     }
-    let range = place::prefix_cells(Cell::segment(first[block]), prefix);
-    paint_run(long, range.from, range.to, new, length)
+    let run = place::prefix_cells(Cell::segment(first[block]), prefix);
+    change_run(long, run, |old| paint_cell(old, new, length))
 }

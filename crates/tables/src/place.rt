@@ -7,13 +7,7 @@ ghost use Rattle.tables.specs.inner.Ranges.{SegmentRun, PrefixRun};
 use cells::cell::Cell;
 use prefix::geometry::Block;
 use prefix::{Prefix, span_of};
-
-// The cells from..to.
-#[derive(Clone, Copy)]
-pub struct Range {
-    pub from: usize,
-    pub to: usize,
-}
+use std::ops::Range;
 
 // The index of a segment's first cell.
 pub fn segment_start(segment: usize) -> usize
@@ -24,22 +18,20 @@ pub fn segment_start(segment: usize) -> usize
 }
 
 // The cells of the segment that a pointer points to.
-pub fn segment_cells(pointer: u32) -> Range
+pub fn segment_cells(pointer: u32) -> Range<usize>
     requires { pointer_bit ≤ pointer }
-    ensures { SegmentRun (segment_of pointer) result.from result.to }
+    ensures { SegmentRun (segment_of pointer) result.start result.end }
 {
-    let from = segment_start(Cell::segment(pointer));
-    let to = from + Block::CELLS;
-    Range { from, to }
+    let start = segment_start(Cell::segment(pointer));
+    start..start + Block::CELLS
 }
 
 // The cells of a prefix longer than 24 in a segment.
-pub fn prefix_cells(segment: usize, prefix: Prefix) -> Range
+pub fn prefix_cells(segment: usize, prefix: Prefix) -> Range<usize>
     requires segment_fits { segment < pointer_bit }
     requires is_long { (width < prefix.length) × (prefix.length ≤ 32) }
-    ensures { PrefixRun prefix segment result.from result.to }
+    ensures { PrefixRun prefix segment result.start result.end }
 {
-    let from = segment_start(segment) + (prefix.address % Block::SIZE) as usize;
-    let to = from + span_of(prefix.length) as usize;
-    Range { from, to }
+    let start = segment_start(segment) + (prefix.address % Block::SIZE) as usize;
+    start..start + span_of(prefix.length) as usize
 }

@@ -1,6 +1,6 @@
 -- Announce and re-home, once nothing refuses: what painting requires, and that with a segment opened or not it leaves what the
 -- specification says. Assumes nothing.
-use mathlib.Core.Path.{◌≡◌, sym, ap, ◌∙◌}
+use mathlib.Core.Path.{◌≡◌, refl, sym, ap, ◌∙◌}
 use mathlib.Core.Bool.{Bool, true, false, cond, true≢false}
 use Prim.Native.Nat.{ℕ}
 use native.Mathlib.Omega.{arith}
@@ -21,7 +21,8 @@ use Rattle.tables.specs.Changes.{changed, left, leaves, opened_at, opened_for}
 use Rattle.tables.specs.inner.Ready.{Ready, Repaintable, Openable}
 use Rattle.refusals.specs.Codes.{announces, re_homes}
 use Rattle.refusals.specs.declared.codes.Checked.{Checked}
-use Rattle.refusals.specs.inner.Checks.{CheckedIs}
+use Rattle.std.proofs.Common.{Option, None, Some, Ok}
+use Rattle.refusals.specs.inner.Checks.{CheckedIs, opens_for}
 use Rattle.refusals.proofs.FreeWords.{all_live}
 use Rattle.refusals.proofs.Refusing.{Admitted, admitted, live_passed, room_passed, named-formed, live_needs_none}
 use Rattle.updates.specs.Effects.{painted}
@@ -43,45 +44,45 @@ ready_of {t} {c} {m} k = record {
 
 module _ {t : Prefix} {m : Lent} {r : Route} {k : Checked} where
   -- announce: the prefix is live or a rule word is free, and a segment that is needed is there
-  pub announce_puttable : CheckedIs t (announces r) m k → k.code ≡ 0 → Puttable t r k m
+  pub announce_puttable : CheckedIs t (announces r) m (Ok k) → Puttable t r k m
   unfolding is_change
-  announce_puttable K z =
-      let A = admitted t (announces r) m (sym K.number ∙ z) in
+  announce_puttable K =
+      let A = admitted t (announces r) m (sym K.number) in
       let room = room_passed t r.prefix m A.1 in
+      let L = K.learnt k refl in
       record {
         paintable = record {
           route = says (is_route? r) A.0.numbers;
           ready = ready_of A.0;
-          touches = K.blocks z;
-          needed = K.opens z;
-          lowest = K.segment z;
-          free = λ o. room.segment (sym (K.opens z) ∙ o);
+          touches = L.blocks;
+          opening = L.segment;
+          free = room.segment;
         };
-        listed = K.listed z;
-        place = K.place z;
+        listed = L.listed;
+        place = L.place;
         room = λ out.
-            let full = denies (eqb? k.used (length m.rules)) (all_live m.rules k.used (K.listed z) ∙ room.word (sym (K.place z).says_live ∙ out)) in
-            by_lt k.used (length m.rules) (λ h. h) (λ h. absurd (full (omega (arith, listed_within (K.listed z)))));
+            let full = denies (eqb? k.used (length m.rules)) (all_live m.rules k.used L.listed ∙ room.word (sym L.place.says_live ∙ out)) in
+            by_lt k.used (length m.rules) (λ h. h) (λ h. absurd (full (omega (arith, listed_within L.listed))));
       }
 
   -- re-home: the prefix is live, and so it needs no segment
-  pub re_home_puttable : CheckedIs t (re_homes r) m k → k.code ≡ 0 → Puttable t r k m
+  pub re_home_puttable : CheckedIs t (re_homes r) m (Ok k) → Puttable t r k m
   unfolding is_change
-  re_home_puttable K z =
-      let A = admitted t (re_homes r) m (sym K.number ∙ z) in
+  re_home_puttable K =
+      let A = admitted t (re_homes r) m (sym K.number) in
       let lives = live_passed r.prefix m A.1 in
+      let L = K.learnt k refl in
       record {
         paintable = record {
           route = says (is_route? r) A.0.numbers;
           ready = ready_of A.0;
-          touches = K.blocks z;
-          needed = K.opens z;
-          lowest = K.segment z;
-          free = λ o. absurd (true≢false (sym o ∙ K.opens z ∙ live_needs_none A.0 lives));
+          touches = L.blocks;
+          opening = L.segment;
+          free = λ o. absurd (true≢false (sym o ∙ live_needs_none A.0 lives));
         };
-        listed = K.listed z;
-        place = K.place z;
-        room = λ out. absurd (true≢false (sym lives ∙ sym (K.place z).says_live ∙ out));
+        listed = L.listed;
+        place = L.place;
+        room = λ out. absurd (true≢false (sym lives ∙ sym L.place.says_live ∙ out));
       }
 
 -- ---- painting
@@ -113,23 +114,41 @@ painted_direct t r T none n o =
     (cond x (opened_at (block_of t r.prefix.address) (lowest_free T.owners) T) T) in
     left (changed T after) after) (sym none)
 
-module _ {t : Prefix} {r : Route} {blocks : Blocks} {opens : Bool} {segment : ℕ} {T : Tables} (P : Paintable t r blocks opens segment T) where
-  pub openable : opens ≡ true → Openable t r.prefix segment T
-  openable o =
-      let n = says (needs_segment? t r.prefix T) (sym P.needed ∙ o) in
+-- what was checked says whether a segment is opened, and which
+opened_needs : (b : Bool) (n : ℕ) {s : ℕ} → Some s ≡ cond b (Some n) None → (b ≡ true) × (s ≡ n)
+opened_needs true n e = (refl, cc)
+opened_needs false n e = cc
+
+closed_needs : (b : Bool) (n : ℕ) → None ≡ cond b (Some n) None → b ≡ false
+closed_needs true n e = cc
+closed_needs false n e = refl
+
+module _ {t : Prefix} {r : Route} {blocks : Blocks} {opens : Option ℕ} {T : Tables} (P : Paintable t r blocks opens T) where
+  pub opens_at : {s : ℕ} → opens ≡ Some s → (needs_segment t r.prefix T ≡ true) × (s ≡ lowest_free T.owners)
+  unfolding opens_for
+  opens_at e = opened_needs (needs_segment t r.prefix T) (lowest_free T.owners) (sym e ∙ P.opening)
+
+  pub opens_none : opens ≡ None → needs_segment t r.prefix T ≡ false
+  unfolding opens_for
+  opens_none e = closed_needs (needs_segment t r.prefix T) (lowest_free T.owners) (sym e ∙ P.opening)
+
+  pub openable : {s : ℕ} → opens ≡ Some s → Openable t r.prefix s T
+  openable {s} e =
+      let o = opens_at e in
+      let n = says (needs_segment? t r.prefix T) o.0 in
       record {
         sized = P.ready.sized;
         formed = P.ready.formed;
         inside = P.ready.inside;
         longer = n.0;
         direct = n.1;
-        lent = rw (P.lowest o) (lowest_free_lem T.owners (P.free o)).0;
+        lent = rw o.1 (lowest_free_lem T.owners (P.free o.0)).0;
       }
 
-  pub repaintable : opens ≡ false → Repaintable t r.prefix T
-  repaintable o = record {
+  pub repaintable : opens ≡ None → Repaintable t r.prefix T
+  repaintable e = record {
     ready = P.ready;
     has_segment = λ long.
         by_lt (get_or T.first (block_of t r.prefix.address) 0) pointer_bit
-        (λ d. absurd (denies (needs_segment? t r.prefix T) (sym P.needed ∙ o) (long, d))) (λ g. g);
+        (λ d. absurd (denies (needs_segment? t r.prefix T) (opens_none e) (long, d))) (λ g. g);
   }

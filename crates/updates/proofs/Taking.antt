@@ -23,6 +23,7 @@ use Rattle.cells.specs.Memory.{Lent, Tables}
 use Rattle.updates.proofs.Putting.{ready_of}
 use Rattle.refusals.proofs.Refusing.{admitted, live_passed, live_points}
 use Rattle.refusals.specs.Codes.{withdraws}
+use Rattle.std.proofs.Common.{Ok}
 use Rattle.refusals.specs.inner.Checks.{CheckedIs}
 use Rattle.updates.specs.inner.Steps.{Takable}
 use Rattle.rules.specs.inner.Places.{Listed}
@@ -105,17 +106,18 @@ module _ {t p : Prefix} {m : Lent} {k : Checked} (A : Takable t p k m) where
       subst (λ (x : List ℕ). Listed x n) (sym e) (subst (Listed (words_of (length m.rules) rs)) (sym c) (formed_listed left-formed))
 
 -- a withdrawal that is accepted
-pub withdraw_takable : {t p : Prefix} {m : Lent} {k : Checked} → CheckedIs t (withdraws p) m k → k.code ≡ 0 → Takable t p k m
-withdraw_takable {t} {p} {m} K z =
-    let A = admitted t (withdraws p) m (sym K.number ∙ z) in
+pub withdraw_takable : {t p : Prefix} {m : Lent} {k : Checked} → CheckedIs t (withdraws p) m (Ok k) → Takable t p k m
+withdraw_takable {t} {p} {m} {k} K =
+    let A = admitted t (withdraws p) m (sym K.number) in
     let lives = live_passed p m A.1 in
+    let L = K.learnt k refl in
     record {
       repaintable = record { ready = ready_of A.0; has_segment = live_points A.0 lives };
-      touches = K.blocks z;
+      touches = L.blocks;
       formed = A.0.sound.rules;
-      listed = K.listed z;
-      place = K.place z;
-      lives = (K.place z).says_live ∙ lives;
+      listed = L.listed;
+      place = L.place;
+      lives = L.place.says_live ∙ lives;
     }
 
 -- ---- repainting, or closing

@@ -1,5 +1,7 @@
 -- What each call answers and leaves, for every input: one report and one memory. Assumes nothing.
-use Rattle.std.specs.Prelude.{ℕ, cond, eqb}
+use Rattle.std.specs.Prelude.{ℕ, cond, eqb, Result, Ok, Err}
+use Rattle.ground.specs.declared.refusal.Refusal.{Refusal}
+use Rattle.ground.specs.Refusals.{number}
 use Rattle.prefix.specs.declared.Prefix.{Prefix}
 use Rattle.cells.specs.Memory.{Lent}
 use Rattle.tables.specs.Changes.{changed}
@@ -14,6 +16,11 @@ pub record Outcome : Type 0 where
 
 abbrev pub reported : Report → Lent → Outcome
 reported r m = record { report = r; lent = m }
+
+-- in numbers: an accepted update answers 0 and its count, a refused one the number and 0
+abbrev pub report_of : Result ℕ Refusal → Report
+report_of (Ok cells) = record { code = 0; cells = cells }
+report_of (Err refusal) = record { code = number refusal; cells = 0 }
 
 -- refused: the number, count 0, every lent word as it was
 abbrev pub refused : ℕ → Lent → Outcome

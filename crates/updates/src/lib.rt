@@ -3,19 +3,21 @@
 #![tactic(auto)]
 
 ghost use Rattle.std.specs.Prelude.{◌≡◌};
+ghost use Rattle.ground.specs.Refusals.{code_of};
 ghost use Rattle.cells.specs.Memory.{lent_of};
 ghost use Rattle.rules.specs.Words.{route_by};
 ghost use Rattle.refusals.specs.Codes.{announces, withdraws, re_homes};
-ghost use Rattle.updates.specs.Calls.{reported, step, clear};
+ghost use Rattle.updates.specs.Calls.{reported, report_of, step, clear};
 
 mod put;
 mod take;
-mod zero;
 
+use cells::lent::Lent;
+use ground::refusal::Refusal;
 use prefix::Prefix;
 use refusals::codes;
 
-// What an update reports: 0 and the number of cells that it changed, or a refusal's number and 0.
+// What an update reports, as C gets it: 0 and the number of cells that it changed, or a refusal's number and 0.
 #[repr(C)]
 #[derive(Clone, Copy)]
 pub struct Report {
@@ -23,29 +25,47 @@ pub struct Report {
     pub cells: u32,
 }
 
-// Sets all lent memory to 0. It answers 0, or refusal 1.
+impl From<Result<u32, Refusal>> for Report {
+    ghost from_gives = { λ outcome report. report ≡ report_of outcome };
+
+    fn from(outcome: Result<u32, Refusal>) -> Report {
+        match outcome {
+            Ok(cells) => Report { code: 0, cells },
+            Err(refusal) => Report {
+                code: refusal.into(),
+                cells: 0,
+            },
+        }
+    }
+}
+
+// Sets all lent memory to 0, or refusal 1.
 pub fn clear(
     first: &mut [u32],
     long: &mut [u32],
     owners: &mut [u32],
     rules: &mut [u64],
     territory: Prefix,
-) -> u32
-    ensures { reported (record { code = result; cells = 0 }) (lent_of first.new long.new owners.new rules.new)
+) -> Result<(), Refusal>
+    ensures { reported (record { code = code_of result; cells = 0 }) (lent_of first.new long.new owners.new rules.new)
         ≡ clear territory (lent_of first.old long.old owners.old rules.old) }
 {
-    let code = codes::clear_checked(first, long, owners, rules, territory);
-    if code != 0 {
-        return code;
-    }
-    zero::zero_cells(first);
-    zero::zero_cells(long);
-    zero::zero_cells(owners);
-    zero::zero_words(rules);
-    0
+    let lent = Lent {
+        first,
+        long,
+        owners,
+        rules,
+    };
+    codes::clear_checked(lent, territory)?;
+    first.fill(0);
+    long.fill(0);
+    owners.fill(0);
+    rules.fill(0);
+    Ok(())
 }
 
-// Makes a prefix live with a hop; if it is live already, its hop is replaced. Refusals 1, 2, 3, 4, 6 and 7.
+// Makes a prefix live with a hop; if it is live already, its hop is replaced. Answers how many cells it changed. Refusals 1, 2, 3, 4, 6
+// and 7.
 pub fn announce(
     first: &mut [u32],
     long: &mut [u32],
@@ -54,15 +74,22 @@ pub fn announce(
     territory: Prefix,
     prefix: Prefix,
     hop: u32,
-) -> Report
-    ensures { reported result (lent_of first.new long.new owners.new rules.new)
+) -> Result<u32, Refusal>
+    ensures { reported (report_of result) (lent_of first.new long.new owners.new rules.new)
         ≡ step territory (announces (route_by prefix hop)) (lent_of first.old long.old owners.old rules.old) }
 {
-    let checked = codes::announce_checked(first, long, owners, rules, territory, prefix, hop);
-    put::put_checked(first, long, owners, rules, territory, prefix, hop, checked)
+    let lent = Lent {
+        first,
+        long,
+        owners,
+        rules,
+    };
+    let checked = codes::announce_checked(lent, territory, prefix, hop)?;
+    let cells = put::put_checked(first, long, owners, rules, territory, prefix, hop, checked);
+    Ok(cells)
 }
 
-// Changes the hop of a live prefix. Refusals 1 to 5.
+// Changes the hop of a live prefix, and answers how many cells it changed. Refusals 1 to 5.
 pub fn re_home(
     first: &mut [u32],
     long: &mut [u32],
@@ -71,15 +98,22 @@ pub fn re_home(
     territory: Prefix,
     prefix: Prefix,
     hop: u32,
-) -> Report
-    ensures { reported result (lent_of first.new long.new owners.new rules.new)
+) -> Result<u32, Refusal>
+    ensures { reported (report_of result) (lent_of first.new long.new owners.new rules.new)
         ≡ step territory (re_homes (route_by prefix hop)) (lent_of first.old long.old owners.old rules.old) }
 {
-    let checked = codes::re_home_checked(first, long, owners, rules, territory, prefix, hop);
-    put::put_checked(first, long, owners, rules, territory, prefix, hop, checked)
+    let lent = Lent {
+        first,
+        long,
+        owners,
+        rules,
+    };
+    let checked = codes::re_home_checked(lent, territory, prefix, hop)?;
+    let cells = put::put_checked(first, long, owners, rules, territory, prefix, hop, checked);
+    Ok(cells)
 }
 
-// Removes a live prefix. Refusals 1 to 5.
+// Removes a live prefix, and answers how many cells it changed. Refusals 1 to 5.
 pub fn withdraw(
     first: &mut [u32],
     long: &mut [u32],
@@ -87,10 +121,17 @@ pub fn withdraw(
     rules: &mut [u64],
     territory: Prefix,
     prefix: Prefix,
-) -> Report
-    ensures { reported result (lent_of first.new long.new owners.new rules.new)
+) -> Result<u32, Refusal>
+    ensures { reported (report_of result) (lent_of first.new long.new owners.new rules.new)
         ≡ step territory (withdraws prefix) (lent_of first.old long.old owners.old rules.old) }
 {
-    let checked = codes::withdraw_checked(first, long, owners, rules, territory, prefix);
-    take::take_checked(first, long, owners, rules, territory, prefix, checked)
+    let lent = Lent {
+        first,
+        long,
+        owners,
+        rules,
+    };
+    let checked = codes::withdraw_checked(lent, territory, prefix)?;
+    let cells = take::take_checked(first, long, owners, rules, territory, prefix, checked);
+    Ok(cells)
 }

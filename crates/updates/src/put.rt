@@ -1,15 +1,14 @@
-// Announce and re-home, once their number is known: where it is 0 the cells of the prefix are painted, in a segment that is opened if need
-// be, and the route is put among the rules.
+// Announce and re-home, once nothing refuses: the cells of the prefix are painted, in a segment that is opened if need be, and the route
+// is put among the rules.
 ghost use Rattle.std.specs.Prelude.{◌≡◌};
 ghost use Rattle.prefix.specs.Routes.{puts};
 ghost use Rattle.cells.specs.Memory.{lent_of, tables_of};
 ghost use Rattle.rules.specs.Words.{route_by};
 ghost use Rattle.tables.specs.Changes.{left, leaves};
-ghost use Rattle.updates.specs.Calls.{reported, outcome};
+ghost use Rattle.updates.specs.Calls.{reported, accepted};
 ghost use Rattle.updates.specs.Effects.{painted, effect};
 ghost use Rattle.updates.specs.inner.Steps.{Paintable, Puttable};
 
-use crate::Report;
 use cells::cell::Cell;
 use prefix::Prefix;
 use prefix::geometry::Blocks;
@@ -17,8 +16,8 @@ use refusals::codes::Checked;
 use rules::list;
 use tables::{fill, paint};
 
-// Paints the cells of the prefix, and returns how many cells differ. What was checked says which blocks it touches, and whether a segment
-// is opened for it, and which.
+// Paints the cells of the prefix, and returns how many cells differ. What was checked says which blocks it touches, and which segment is
+// opened for it, if one is.
 fn paint_route(
     first: &mut [u32],
     long: &mut [u32],
@@ -27,16 +26,15 @@ fn paint_route(
     prefix: Prefix,
     hop: u32,
     blocks: Blocks,
-    opens: bool,
-    segment: usize,
+    opens: Option<usize>,
 ) -> u32
-    requires { Paintable territory (route_by prefix hop) blocks opens segment (tables_of first.old long.old owners.old) }
+    requires { Paintable territory (route_by prefix hop) blocks opens (tables_of first.old long.old owners.old) }
     ensures { left result (tables_of first.new long.new owners.new)
         ≡ leaves (painted territory (route_by prefix hop)) (tables_of first.old long.old owners.old) }
 {
     let new = Cell::pack(hop, prefix.length);
-    if opens {
-        return fill::open_and_paint(
+    match opens {
+        Some(segment) => fill::open_and_paint(
             first,
             long,
             owners,
@@ -45,12 +43,12 @@ fn paint_route(
             blocks.from,
             segment,
             new,
-        );
+        ),
+        None => paint::paint(first, long, owners, territory, prefix, blocks, new),
     }
-    paint::paint(first, long, owners, territory, prefix, blocks, new)
 }
 
-// A refusal as it was checked; else what was checked says where the route stands among the rules, or would stand.
+// What was checked says also where the route stands among the rules, or would stand. Returns how many cells differ.
 pub fn put_checked(
     first: &mut [u32],
     long: &mut [u32],
@@ -60,20 +58,12 @@ pub fn put_checked(
     prefix: Prefix,
     hop: u32,
     checked: Checked,
-) -> Report
-    requires { checked.code ≡ 0 → Puttable territory (route_by prefix hop) checked (lent_of first.old long.old owners.old rules.old) }
-    ensures { reported result (lent_of first.new long.new owners.new rules.new)
-        ≡ outcome checked.code (lent_of first.old long.old owners.old rules.old)
+) -> u32
+    requires { Puttable territory (route_by prefix hop) checked (lent_of first.old long.old owners.old rules.old) }
+    ensures { reported (record { code = 0; cells = result }) (lent_of first.new long.new owners.new rules.new)
+        ≡ accepted (lent_of first.old long.old owners.old rules.old)
         (effect territory (puts (route_by prefix hop)) (lent_of first.old long.old owners.old rules.old)) }
 {
-    if checked.code != 0 {
-        return Report {
-            code: checked.code,
-            cells: 0,
-        };
-    }
-    let blocks = checked.blocks;
-    let place = checked.place;
     let cells = paint_route(
         first,
         long,
@@ -81,10 +71,9 @@ pub fn put_checked(
         territory,
         prefix,
         hop,
-        blocks,
-        checked.opens,
+        checked.blocks,
         checked.segment,
     );
-    list::put(rules, checked.used, place, prefix, hop);
-    Report { code: 0, cells }
+    list::put(rules, checked.used, checked.place, prefix, hop);
+    cells
 }

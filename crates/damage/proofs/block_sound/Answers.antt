@@ -7,7 +7,7 @@ use native.Mathlib.Omega.{arith}
 use lib.ListN.{get_or}
 use Rattle.ground.proofs.Tests.{leb?, iff?, stops, same_test, if_so, if_not}
 use Rattle.cells.specs.Cells.{pointer_bit}
-use Rattle.cells.specs.Memory.{Tables, tables_of}
+use Rattle.cells.specs.Memory.{Tables, held}
 use Rattle.damage.specs.Damage.{segment_sound, sound_by}
 use Rattle.damage.proofs.Soundness.{is_clean?, segment_sound?, sound_by?}
 use Rattle.std.proofs.Common.{ap, not}
@@ -15,10 +15,10 @@ use Rattle.damage.proofs.block_sound.Goals.{Else-not-is_pointer, Then-not-is_poi
 use Rattle.damage.proofs.block_sound.Goals as goal
 
 -- the two cases of the first cell
-other : (c : Then-not-is_pointer) → let s = c.args in get_or s.first.now s.block 0 < pointer_bit
+other : (c : Then-not-is_pointer) → let s = c.args in get_or s.lent.first.now s.block 0 < pointer_bit
 other c = lt_of_not-le (if_not (leb? _ _) c.is_pointer.ensures (ap not c.if-not-is_pointer.true))
 
-pointer : (c : Else-not-is_pointer) → let s = c.args in pointer_bit ≤ get_or s.first.now s.block 0
+pointer : (c : Else-not-is_pointer) → let s = c.args in pointer_bit ≤ get_or s.lent.first.now s.block 0
 pointer c = if_so (leb? _ _) c.is_pointer.ensures (ap not c.if-not-is_pointer.false)
 
 pub returns-then-opened : goal.returns-then-opened
@@ -36,7 +36,7 @@ returns-then-not-is_pointer c =
 pub returns-then-not-opened : goal.returns-then-not-opened
 returns-then-not-opened c =
     let s = c.args in
-    let damaged : sound_by (tables_of s.first.now s.long.now s.owners.now) s.block s.opened ≡ false =
+    let damaged : sound_by ((held s.lent).tables) s.block s.opened ≡ false =
     stops (sound_by? _ _ _) (λ b. true≢false (sym (b.pointer (pointer (goal.at.returns-then-not-opened c).Else-not-is_pointer)).1 ∙ c.if-not-opened.true)) in
     sym damaged
 
@@ -48,7 +48,7 @@ unfolding segment_sound
 returns c =
     let s = c.args in
     let p = pointer (goal.at.returns c).Else-not-is_pointer in
-    let tables-of : Tables = tables_of s.first.now s.long.now s.owners.now in
+    let tables-of : Tables = (held s.lent).tables in
     c.segment_sound.ensures ∙ ap (segment_sound tables-of s.block) c.segment.ensures
     ∙ same_test (segment_sound? tables-of _ _)
     (iff? (sound_by? _ _ _) (λ b. (b.pointer p).0)

@@ -5,11 +5,11 @@ use Rattle.ground.proofs.Tests.{iff?, stops, same_test}
 use Rattle.damage.proofs.Soundness.{clean_run?, segment_sound?}
 use Rattle.damage.proofs.segment_sound.Goals as goal
 
-pub returns-then-owners-segment : goal.returns-then-owners-segment
-returns-then-owners-segment c = sym (stops (segment_sound? _ _ _) (λ h. omega (arith, h.lent)))
+pub returns-then-lent-segment : goal.returns-then-lent-segment
+returns-then-lent-segment c = sym (stops (segment_sound? _ _ _) (λ h. omega (arith, h.lent)))
 
-pub returns-then-owners-segment-2 : goal.returns-then-owners-segment-2
-returns-then-owners-segment-2 c = sym (stops (segment_sound? _ _ _) (λ h. c.if-owners-segment-2.true (omega (arith, h.owned))))
+pub returns-then-lent-segment-2 : goal.returns-then-lent-segment-2
+returns-then-lent-segment-2 c = sym (stops (segment_sound? _ _ _) (λ h. c.if-lent-segment-2.true (omega (arith, h.owned))))
 
 pub returns : goal.returns
 returns c =

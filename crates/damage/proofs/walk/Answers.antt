@@ -10,6 +10,7 @@ use Rattle.prefix.proofs.Spans.{aligned}
 use Rattle.cells.proofs.Lending.{few_firsts}
 use Rattle.rules.specs.inner.Blocks.{CursorAt}
 use Rattle.damage.proofs.Soundness.{CleanRun, clean_run?, sound_by?, sound_run?}
+use Rattle.rules.proofs.AllLive.{ordered_listed}
 use Rattle.damage.proofs.Turns.{start_within, clean_run_lem, sound_run_lem, sound_here, walked_on}
 use Rattle.std.proofs.Common.{ap, not}
 use Rattle.damage.proofs.walk.Goals.{Else-not-clean_run}
@@ -28,7 +29,7 @@ block_start-start-requires c =
 pub stretch-closed-requires : goal.stretch-closed-requires
 stretch-closed-requires c =
     let l = c.loop-block in
-    record { listed = c.requires.listed; cursor_at = subst (λ (a : ℕ). CursorAt c.args.rules.now c.args.used a l.here) (sym c.block_start-start.ensures) l.invariant.0.cursor }
+    subst (λ (a : ℕ). CursorAt c.args.live.words.now (length c.args.live.words.now) a l.here) (sym c.block_start-start.ensures) l.invariant.0.cursor
 
 pub clean_run-requires : goal.clean_run-requires
 clean_run-requires c = omega (arith, c.stretch-closed.ensures.within, c.requires.lent.all)
@@ -38,16 +39,16 @@ returns-then-not-clean_run c =
     let l = c.loop-block in
     sym (stops (sound_run? _ _ _ _) (λ all.
     if_not (clean_run? _ _ _ _) c.clean_run.ensures (ap not c.if-not-clean_run.true)
-    (clean_run_lem c.requires.sized c.requires.listed l.invariant.0 c.block_start-start.ensures c.stretch-closed.ensures (λ j m k. all j (omega arith) (omega arith)))))
+    (clean_run_lem c.requires.sized (ordered_listed c.args.live.ordered) l.invariant.0 c.block_start-start.ensures c.stretch-closed.ensures (λ j m k. all j (omega arith) (omega arith)))))
 
 -- past the test, the stretch is clean
-clean : (c : Else-not-clean_run) → CleanRun width c.args.first.now c.loop-block.block c.stretch-closed.result
+clean : (c : Else-not-clean_run) → CleanRun width c.args.lent.first.now c.loop-block.block c.stretch-closed.result
 clean c = if_so (clean_run? _ _ _ _) c.clean_run.ensures (ap not c.if-not-clean_run.false)
 
 pub returns-then-stop-end : goal.returns-then-stop-end
 returns-then-stop-end c =
     sym (passes (sound_run? _ _ _ _) (λ k m j.
-    sound_run_lem c.requires.sized c.requires.listed c.loop-block.invariant.0 c.block_start-start.ensures c.stretch-closed.ensures (clean (goal.at.returns-then-stop-end c).Else-not-clean_run) k m (omega arith)))
+    sound_run_lem c.requires.sized (ordered_listed c.args.live.ordered) c.loop-block.invariant.0 c.block_start-start.ensures c.stretch-closed.ensures (clean (goal.at.returns-then-stop-end c).Else-not-clean_run) k m (omega arith)))
 
 -- past the second, the block after it has a cell
 pub block_start-next-requires : goal.block_start-next-requires
@@ -58,8 +59,7 @@ pub pass-cursor-requires : goal.pass-cursor-requires
 pass-cursor-requires c =
     let s = c in
     let same : c.block_start-start.result + block_size * c.stretch-closed.result ≡ c.block_start-next.result = omega (arith, c.block_start-start.ensures, c.block_start-next.ensures) in record {
-      listed = s.requires.listed;
-      cursor_at = subst (λ (a : ℕ). CursorAt s.args.rules.now s.args.used a c.loop-block.here) same c.stretch-closed.ensures.cursor;
+      cursor_at = subst (λ (a : ℕ). CursorAt s.args.live.words.now (length s.args.live.words.now) a c.loop-block.here) same c.stretch-closed.ensures.cursor;
       aligned = (
         omega (arith, c.block_start-next.ensures, aligned s.requires.sized.territory),
         omega (
@@ -73,7 +73,7 @@ pass-cursor-requires c =
 pub block_sound-requires : goal.block_sound-requires
 block_sound-requires c =
     let s = c.requires in
-    let lent : c.loop-block.block + c.stretch-closed.result < length c.args.first.now = omega (arith, s.lent.all, c.stretch-closed.ensures.within) in
+    let lent : c.loop-block.block + c.stretch-closed.result < length c.args.lent.first.now = omega (arith, s.lent.all, c.stretch-closed.ensures.within) in
     (s.sized.longs, omega (arith, few_firsts s.sized), lent)
 
 pub returns-then-not-block_sound : goal.returns-then-not-block_sound
@@ -82,13 +82,13 @@ returns-then-not-block_sound c =
     let stop : ℕ = l.block + c.stretch-closed.result in
     sym (stops (sound_run? _ _ _ _) (λ all.
     if_not (sound_by? _ _ _) c.block_sound.ensures (ap not c.if-not-block_sound.true)
-    (sound_here c.requires.sized c.requires.listed l.invariant.0 c.block_start-start.ensures c.stretch-closed.ensures c.block_start-next.ensures c.pass-cursor.ensures
+    (sound_here c.requires.sized (ordered_listed c.args.live.ordered) l.invariant.0 c.block_start-start.ensures c.stretch-closed.ensures c.block_start-next.ensures c.pass-cursor.ensures
     (all stop (omega (arith, l.invariant.0.forward)) (omega (arith, c.stretch-closed.ensures.within))))))
 
 pub loop-block-preserved : goal.loop-block-preserved
 loop-block-preserved c =
     let l = c.loop-block in (
-      walked_on c.requires.sized c.requires.listed l.invariant.0 c.block_start-start.ensures c.stretch-closed.ensures c.block_start-next.ensures c.pass-cursor.ensures
+      walked_on c.requires.sized (ordered_listed c.args.live.ordered) l.invariant.0 c.block_start-start.ensures c.stretch-closed.ensures c.block_start-next.ensures c.pass-cursor.ensures
           (omega arith) (clean (goal.at.loop-block-preserved c).Else-not-clean_run)
           (if_so (sound_by? _ _ _) c.block_sound.ensures (ap not c.if-not-block_sound.false)),
       search rules,

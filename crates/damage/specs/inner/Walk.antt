@@ -6,7 +6,6 @@ use Rattle.prefix.specs.declared.Prefix.{Prefix}
 use Rattle.prefix.specs.declared.geometry.Blocks.{Blocks}
 use Rattle.prefix.specs.Geometry.{block_start}
 use Rattle.prefix.specs.Routes.{Route}
-use Rattle.rules.specs.inner.Places.{Listed}
 use Rattle.cells.specs.Memory.{Tables, Sized}
 use Rattle.damage.specs.Damage.{is_clean, block_sound}
 
@@ -27,5 +26,4 @@ pub record BlocksLent (bs : Blocks) (tables : Tables) : Type 0 where
 pub record MayWalk (t : Prefix) (bs : Blocks) (tables : Tables) (ws : List ℕ) (n at : ℕ) : Type 0 where
   pub sized : Sized t tables
   pub lent : BlocksLent bs tables
-  pub listed : Listed ws n
   pub cursor : CursorAt ws n (block_start t bs.from) at

@@ -1,5 +1,5 @@
--- What the one pass over the words answers: how many rules from the front are in order, and whether the words have the form. Assumes nothing.
-use Rattle.std.specs.Prelude.{◌≡◌, ℕ, suc, ◌≤◌, ◌<◌, Bool, true, List, length, get_or}
+-- What the one pass over the words answers: how many rules from the front are in order, and the live words. Assumes nothing.
+use Rattle.std.specs.Prelude.{◌≡◌, ℕ, suc, ◌≤◌, ◌<◌, true, List, length, get_or}
 use Rattle.prefix.specs.declared.Prefix.{Prefix}
 use Rattle.rules.specs.Words.{IsRule}
 use Rattle.rules.specs.Rules.{live_words, formed}
@@ -16,7 +16,7 @@ pub record CountIs (t : Prefix) (ws : List ℕ) (n : ℕ) : Type 0 where
   pub in_order : InOrder t ws n
   pub most : InOrder t ws (suc n) → ⊥
 
--- what the form test answers: whether the words have the form, and if so how many are live
-pub record FormIs (t : Prefix) (ws : List ℕ) (ok : Bool) (n : ℕ) : Type 0 where
-  pub test : ok ≡ formed t ws
-  pub count : ok ≡ true → n ≡ length (live_words ws)
+-- what the form test hands on where the words have the form: the live ones
+pub record LiveFront (t : Prefix) (ws vs : List ℕ) : Type 0 where
+  pub test : formed t ws ≡ true
+  pub front : vs ≡ live_words ws

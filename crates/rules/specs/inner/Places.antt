@@ -1,9 +1,9 @@
 -- Words that were tested, what the search among them answers, and what the moves of words leave. Assumes nothing.
-use Rattle.std.specs.Prelude.{◌≡◌, ℕ, suc, ◌≤◌, ◌<◌, Bool, List, ◌∷◌, ◌++◌, length, get_or, take, drop}
+use Rattle.std.specs.Prelude.{◌≡◌, ℕ, suc, ◌≤◌, ◌<◌, Bool, Result, Ok, Err, List, ◌∷◌, ◌++◌, length, get_or, take, drop}
 use Rattle.std.proofs.Math.Seq.{slice}
 use Rattle.prefix.specs.declared.Prefix.{Prefix}
-use Rattle.prefix.specs.Routes.{AllRoutes, Ascending}
-use Rattle.rules.specs.Words.{prefix_of, key_of}
+use Rattle.prefix.specs.Routes.{IsRoute, AllRoutes, Ascending}
+use Rattle.rules.specs.Words.{prefix_of, route_of, key_of}
 use Rattle.rules.specs.Rules.{live_words, routes, is_live}
 
 -- the words have the form, whatever the territory, and the first n are live
@@ -20,6 +20,11 @@ prefix_at ws i = prefix_of (get_or ws i 0)
 abbrev pub key_at : List ℕ → ℕ → ℕ
 key_at ws i = key_of (prefix_at ws i)
 
+-- every word is a rule, and their keys ascend
+pub record Ordered (ws : List ℕ) : Type 0 where
+  pub rules : (i : ℕ) → i < length ws → IsRoute (route_of (get_or ws i 0))
+  pub order : (i j : ℕ) → i < j → j < length ws → key_at ws i < key_at ws j
+
 -- at is the first index below n whose key is at least k, or n
 pub record PositionIs (ws : List ℕ) (n k at : ℕ) : Type 0 where
   pub within : at ≤ n
@@ -32,6 +37,11 @@ pub record Bracket (ws : List ℕ) (n k low high : ℕ) : Type 0 where
   pub high_le : high ≤ n
   pub below : (i : ℕ) → i < low → key_at ws i < k
   pub above : (i : ℕ) → high ≤ i → i < n → k ≤ key_at ws i
+
+-- the index that a search answers, whether it finds or not
+abbrev pub index_of : Result ℕ ℕ → ℕ
+index_of (Ok at) = at
+index_of (Err at) = at
 
 -- at is where the prefix p stands among the first n words, or would stand, and found says whether it is live
 pub record PlaceIs (ws : List ℕ) (n : ℕ) (p : Prefix) (at : ℕ) (found : Bool) : Type 0 where

@@ -1,17 +1,8 @@
--- `runs::shared` meets its contract: the leading zeros of the exclusive or are the bits that the two share, and the limit may allow fewer.
+-- `shared` meets its contract: the leading zeros of the exclusive or are the bits that the two share, and the limit may allow fewer.
 -- Assumes nothing.
 use native.Mathlib.Omega.{arith}
 use Rattle.runs.proofs.SharedBits.{agree_to, apart_from}
 use Rattle.runs.proofs.shared.Goals as goal
-
-pub returns-then-bits-limit : goal.returns-then-bits-limit
-returns-then-bits-limit c =
-    let a = c.args in
-    record {
-      below = omega arith;
-      agree = agree_to a.address a.other c.ranges.address.fits c.ranges.other.fits _ (omega arith);
-      largest = λ k low high. apart_from a.address a.other c.ranges.address.fits c.ranges.other.fits k low (omega arith);
-    }
 
 pub returns : goal.returns
 returns c =
@@ -19,5 +10,5 @@ returns c =
     record {
       below = omega arith;
       agree = agree_to a.address a.other c.ranges.address.fits c.ranges.other.fits _ (omega arith);
-      largest = λ k low high. absurd (omega arith);
+      largest = λ k low high. apart_from a.address a.other c.ranges.address.fits c.ranges.other.fits k (omega arith) (omega arith);
     }

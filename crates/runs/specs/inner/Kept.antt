@@ -17,10 +17,19 @@ pub record Started (ws : List ℕ) (n a at : ℕ) : Type 0 where
   pub within : at ≤ n
   pub started : (k : ℕ) → k < at → (prefix_at ws k).address ≤ a
 
--- so they do, and each address from a on and before until has the cell found, where no word after them contains it
-pub record Covers (ws : List ℕ) (n a found until at : ℕ) : Type 0 where
+-- each address from a on and before until has the cell, where no word from index at on contains it
+abbrev pub Covering : List ℕ → ℕ → ℕ → ℕ → ℕ → ℕ → Type 0
+Covering ws n a cell until at = (b : ℕ) → a ≤ b → b < until → Clear ws n at b → cell ≡ cell_of (best (routes ws) b)
+
+-- so it does, and the words before index at start at a or before
+pub record Covers (ws : List ℕ) (n a cell until at : ℕ) : Type 0 where
   pub counted : Started ws n a at
-  pub covers : (b : ℕ) → a ≤ b → b < until → Clear ws n at b → found ≡ cell_of (best (routes ws) b)
+  pub covers : Covering ws n a cell until at
+
+-- it does, and until is past a
+pub record Holds (ws : List ℕ) (n a cell until at : ℕ) : Type 0 where
+  pub past : a < until
+  pub covers : Covering ws n a cell until at
 
 -- every address from a on and before the run's end has the longest match of its cell, and what covers a later one
 pub record Kept (ws : List ℕ) (n a : ℕ) (run : Run) : Type 0 where

@@ -1,17 +1,15 @@
--- The goals that the check leaves.
+-- The goal that the check leaves: where the sum is 0, each of its terms is.
+use mathlib.Core.Path.{◌≡◌}
+use Prim.Native.Nat.{ℕ, ◌/◌}
 use native.Mathlib.Omega.{arith}
+use borrow.Author.Rules.{rules}
 use borrow.Author.Tests.{eqb-true}
-use Rattle.unpaint.proofs.Unpainting.{count_start, count_more}
+use Rattle.std.specs.Prelude.{sum_by}
+use Rattle.std.proofs.lemmas.List.Sums.{get_or-le-sum_by}
+use Rattle.cells.specs.Cells.{pointer_bit}
 use Rattle.unpaint.proofs.none_open.Goals as goal
 
-pub loop-i-init : goal.loop-i-init
-loop-i-init c = count_start c.requires.ordered
-
-pub overflow_add-pointers : goal.overflow_add-pointers
-overflow_add-pointers c = omega (arith, c.type_inv.first c.loop-i.i, c.loop-i.invariant.few, c.requires.few)
-
-pub loop-i-preserved : goal.loop-i-preserved
-loop-i-preserved c = count_more c.loop-i.invariant (omega arith) (omega (arith, c.type_inv.first c.loop-i.i))
-
 pub returns : goal.returns
-returns c = λ e k low high. c.loop-i.invariant.none (eqb-true _ _ e) k low (omega arith)
+returns c z k d h =
+    let total : c.sum.result ≡ sum_by (λ (x : ℕ). x / pointer_bit) c.args.first.now = search rules in
+    omega (arith, eqb-true _ _ z, get_or-le-sum_by (λ (x : ℕ). x / pointer_bit) c.args.first.now k d h)

@@ -36,16 +36,16 @@ overflow_add-to c =
     let lent = ready (goal.at.overflow_add-to c).Then-length-le-WIDTH in
     omega (arith, lent.within, few_firsts lent.sized)
 
-pub unpaint_blocks-tally-requires : goal.unpaint_blocks-tally-requires
-unpaint_blocks-tally-requires c =
-    let at = goal.at.unpaint_blocks-tally-requires c in
+pub unpaint_blocks-requires : goal.unpaint_blocks-requires
+unpaint_blocks-requires c =
+    let at = goal.at.unpaint_blocks-requires c in
     let pre = c.requires.repaintable.ready in
     let start = starts pre.sized.territory pre.formed pre.inside c.if-length-le-WIDTH.true in
-    record { blocks_ready = ready at.Then-length-le-WIDTH; asking = record { listed = c.requires.listed; kept = kept_later (omega (arith, from at.Start)) c.longest-run.ensures.kept } }
+    record { blocks_ready = ready at.Then-length-le-WIDTH; kept = kept_later (omega (arith, from at.Start)) c.longest-run.ensures.kept }
 
 pub returns-then-length-le-WIDTH : goal.returns-then-length-le-WIDTH
 returns-then-length-le-WIDTH c =
-    blocks-repainted c.requires.repaintable.ready c.if-length-le-WIDTH.true c.requires.touched_blocks _ c.unpaint_blocks-tally.ensures.blocks
+    blocks-repainted c.requires.repaintable.ready c.if-length-le-WIDTH.true c.requires.touched_blocks _ c.unpaint_blocks.ensures.blocks
 
 pub offset_bounds-first-block : goal.offset_bounds-first-block
 offset_bounds-first-block c =
@@ -59,23 +59,23 @@ segment-requires c =
     let at = goal.at.segment-requires c in
     omega (arith, points (open_block at.Else-length-le-WIDTH) (from at.Start))
 
-pub prefix_cells-range-requires : goal.prefix_cells-range-requires
-prefix_cells-range-requires c =
-    let at = goal.at.prefix_cells-range-requires c in
+pub prefix_cells-part-requires : goal.prefix_cells-part-requires
+prefix_cells-part-requires c =
+    let at = goal.at.prefix_cells-part-requires c in
     let o = open_block at.Else-length-le-WIDTH in
     let lent = (owns o (from at.Start)).lent in
     record { segment_fits = omega (arith, c.segment.ensures, o.ready.sized.few); is_long = (omega (arith, c.if-length-le-WIDTH.false), o.ready.formed.short) }
 
-pub unpaint_run-tally-requires : goal.unpaint_run-tally-requires
-unpaint_run-tally-requires c =
-    let at = goal.at.unpaint_run-tally-requires c in
-    let run = c.prefix_cells-range.ensures in
-    let small = ends_within c.requires.repaintable.ready.formed (omega arith) in record { within = run_within (open_block at.Else-length-le-WIDTH) (from at.Start) c.segment.ensures run; in_range = omega (arith, run.high, small); asking = record { listed = c.requires.listed; kept = c.longest-run.ensures.kept } }
+pub unpaint_run-requires : goal.unpaint_run-requires
+unpaint_run-requires c =
+    let at = goal.at.unpaint_run-requires c in
+    let run = c.prefix_cells-part.ensures in
+    let small = ends_within c.requires.repaintable.ready.formed (omega arith) in record { within = run_within (open_block at.Else-length-le-WIDTH) (from at.Start) c.segment.ensures run; in_range = omega (arith, run.high, small); kept = c.longest-run.ensures.kept }
 
 pub returns : goal.returns
 returns c =
     let at = goal.at.returns c in
-    let run = c.prefix_cells-range.ensures in
-    let f = unpaint_cell c.args.prefix.length (routes c.args.rules.now) in
+    let run = c.prefix_cells-part.ensures in
+    let f = unpaint_cell c.args.prefix.length (routes c.args.live.words.now) in
     let o = open_block at.Else-length-le-WIDTH in
-    run_repainted o (from at.Start) c.segment.ensures run f (run_counted o (from at.Start) c.segment.ensures run f c.unpaint_run-tally.ensures.changed)
+    run_repainted o (from at.Start) c.segment.ensures run f (run_counted o (from at.Start) c.segment.ensures run f c.unpaint_run.ensures.changed)

@@ -1,67 +1,58 @@
 -- The goals that the check leaves.
-use native.Mathlib.Nat.{le_refl, le_antisymm}
+use Prim.Native.Nat.{◌+◌}
+use native.Mathlib.Nat.{le_refl}
 use native.Mathlib.Omega.{arith}
+use borrow.Author.Rules.{rules}
+use Rattle.cells.specs.Memory.{tables_of}
 use Rattle.rules.specs.Rules.{routes}
 use Rattle.runs.proofs.Covered.{kept_later}
-use Rattle.tables.proofs.Blocks.{blocks_none, few_blocks, blocks_then, ready_then, same_firsts}
+use Rattle.tables.specs.Cellwise.{unpaint_cell}
+use Rattle.tables.specs.inner.Ranges.{BlocksChanged}
+use Rattle.tables.proofs.Blocks.{blocks_none, few_blocks, blocks_then, ready_then}
+use Rattle.unpaint.specs.inner.Unpaint.{passed}
 use Rattle.unpaint.proofs.Unpainting.{blocks_passed}
+use Rattle.unpaint.proofs.unpaint_blocks.Goals.{After-unpaint_some-some}
 use Rattle.unpaint.proofs.unpaint_blocks.Goals as goal
 
-pub skip_closed-block-requires : goal.skip_closed-block-requires
-skip_closed-block-requires c = let ready = c.requires.blocks_ready in record { ordered = ready.ordered; inside = ready.within }
+-- one turn repaints the blocks that it passes over, which stay, and some after them
+turned : (c : After-unpaint_some-some) → let a = c.args in let some = c.unpaint_some-some in
+    BlocksChanged a.territory (unpaint_cell a.length (routes a.live.words.now)) a.from some.result.1 (tables_of a.first.now a.long.now a.owners.now)
+    some.new.first some.new.long (c.loop-block.changed + some.result.0)
+turned c =
+    let inv = c.loop-block.invariant in
+    let found = c.in-Some.ensures.found in
+    let some = c.unpaint_some-some.ensures in
+    let passed = c.in-Some.ensures.passed (passed c.args.length) (λ x y h. search rules) in
+    let over = blocks_passed c.args.length (routes c.args.live.words.now) inv.2.blocks inv.0 found.0 passed in
+    blocks_then over (omega (arith, inv.0, found)) (omega (arith, some.some)) some.done.blocks
 
 pub loop-block-init : goal.loop-block-init
-loop-block-init c =
-    let passed = c.skip_closed-block.ensures in (
-      passed.skipped.low,
-      passed.skipped.high,
-      record {
-        blocks = blocks_passed c.args.length (routes c.args.rules.now) (blocks_none _ _ _ _) (le_refl _) passed;
-        kept = kept_later (omega (arith, passed.skipped.low)) c.requires.asking.kept;
-      },
-    )
+loop-block-init c = (le_refl _, c.requires.blocks_ready.ordered, record { blocks = blocks_none _ _ _ _; kept = c.requires.kept })
 
-pub unpaint_some-part-requires : goal.unpaint_some-part-requires
-unpaint_some-part-requires c =
+pub unpaint_some-some-requires-clause-blocks_ready : goal.unpaint_some-some-requires-clause-blocks_ready
+unpaint_some-some-requires-clause-blocks_ready c =
     let inv = c.loop-block.invariant in
-    record { blocks_ready = ready_then inv.2.blocks inv.0 inv.1 (le_refl _) c.requires.blocks_ready; some_blocks = omega arith; asking = record { listed = c.requires.asking.listed; kept = inv.2.kept } }
+    let found = c.in-Some.ensures.found in
+    let passed = c.in-Some.ensures.passed (passed c.args.length) (λ x y h. search rules) in
+    let over = blocks_passed c.args.length (routes c.args.live.words.now) inv.2.blocks inv.0 found.0 passed in
+    ready_then over (omega (arith, inv.0, found)) (omega (arith, found)) (le_refl _) c.requires.blocks_ready
 
 pub overflow_add-changed : goal.overflow_add-changed
-overflow_add-changed c =
-    let turned = c.unpaint_some-part.ensures in
-    let inv = c.loop-block.invariant in
-    let blocks = blocks_then inv.2.blocks inv.0 (omega (arith, turned.some)) turned.done.blocks in
-    record { fits = few_blocks blocks c.requires.blocks_ready }
-
-pub skip_closed-block-requires-in-loop-block : goal.skip_closed-block-requires-in-loop-block
-skip_closed-block-requires-in-loop-block c =
-    let turned = c.unpaint_some-part.ensures in
-    let inv = c.loop-block.invariant in
-    record {
-      ordered = turned.within;
-      inside = omega (arith, same_firsts turned.done.blocks, same_firsts inv.2.blocks, c.requires.blocks_ready.within);
-    }
-
-pub loop-block-smaller : goal.loop-block-smaller
-loop-block-smaller c =
-    let turned = c.unpaint_some-part.ensures in
-    let passed = c.skip_closed-block-in-loop-block.ensures.skipped in
-    omega (arith, turned.some, turned.within, passed.low, passed.high)
+overflow_add-changed c = record { fits = few_blocks (turned (goal.at.overflow_add-changed c).After-unpaint_some-some) c.requires.blocks_ready }
 
 pub loop-block-preserved : goal.loop-block-preserved
 loop-block-preserved c =
-    let turned = c.unpaint_some-part.ensures in
-    let inv = c.loop-block.invariant in
-    let a = c.args in
-    let passed = c.skip_closed-block-in-loop-block.ensures in (
-      omega (arith, inv.0, turned.some, passed.skipped.low),
-      passed.skipped.high,
-      record {
-        blocks = blocks_passed a.length (routes a.rules.now)
-            (blocks_then inv.2.blocks inv.0 (omega (arith, turned.some)) turned.done.blocks) (omega (arith, inv.0, turned.some)) passed;
-        kept = kept_later (omega (arith, passed.skipped.low)) turned.done.kept;
-      },
+    let some = c.unpaint_some-some.ensures in (
+      omega (arith, c.loop-block.invariant.0, c.in-Some.ensures.found, some.some),
+      some.within,
+      record { blocks = turned (goal.at.loop-block-preserved c).After-unpaint_some-some; kept = some.done.kept },
     )
 
 pub returns : goal.returns
-returns c = let done = le_antisymm c.loop-block.invariant.1 c.loop-block-test.false in rw done at c.loop-block.invariant.2
+returns c =
+    let inv = c.loop-block.invariant in
+    record {
+      blocks = blocks_passed c.args.length (routes c.args.live.words.now) inv.2.blocks inv.0 inv.1
+          (c.in_default.ensures.passed (passed c.args.length) (λ x y h. search rules));
+      kept = kept_later (omega (arith, inv.1)) inv.2.kept;
+    }

@@ -1,5 +1,5 @@
--- `unpaint_blocks` meets its contract. The loop's invariant: the blocks before `block` are repainted, `changed` of their cells differ,
--- and the run kept holds at the address of `block`. The measure is what is left of the blocks. Assumes nothing.
+-- `unpaint_blocks` meets its contract. The loop's invariant: the blocks before `next` are repainted, `changed` of their cells differ,
+-- and the run holds at the address of `next`. The measure is what is left of the blocks. Assumes nothing.
 use Prim.Native.Nat.{◌-◌, ◌≤◌}
 use Rattle.unpaint.specs.inner.Unpaint.{BlocksUnpainted}
 use Rattle.cells.specs.Memory.{tables_of}
@@ -7,8 +7,8 @@ use Rattle.unpaint.proofs.unpaint_blocks.Given as goal
 
 abbrev pub invariant-loop-block : goal.invariant-loop-block
 invariant-loop-block l =
-    (l.from ≤ l.block) × (l.block ≤ l.to)
-    × BlocksUnpainted l.territory l.length l.rules l.used l.from l.block (tables_of l.initial.first l.initial.long l.owners) l.first l.long l.changed l.kept
+    (l.from ≤ l.next) × (l.next ≤ l.to)
+    × BlocksUnpainted l.territory l.length l.live.words.now l.from l.next (tables_of l.initial.first l.initial.long l.owners) l.first l.long l.changed l.run
 
 abbrev pub decreases-loop-block : goal.decreases-loop-block
-decreases-loop-block l = l.to - l.block
+decreases-loop-block l = l.to - l.next

@@ -6,6 +6,7 @@ use native.Mathlib.Nat.{le_refl}
 use native.Mathlib.Omega.{arith}
 use lib.ListN.{get_or}
 use borrow.Author.Tests.{leb-true, leb-false}
+use borrow.Author.Rules.{rules}
 use Rattle.prefix.specs.Geometry.{block_start}
 use Rattle.cells.specs.Cells.{pointer_bit}
 use Rattle.cells.specs.Memory.{tables_of}
@@ -13,7 +14,7 @@ use Rattle.rules.specs.Rules.{routes}
 use Rattle.runs.proofs.Covered.{kept_later}
 use Rattle.tables.specs.Cellwise.{unpaint_cell}
 use Rattle.tables.specs.inner.Ready.{segment_at, Owns}
-use Rattle.unpaint.specs.inner.Unpaint.{Asking}
+use Rattle.unpaint.specs.inner.Unpaint.{KeptAt, replaced}
 use Rattle.tables.proofs.Blocks.{block_points, segment_within, run_addressed, block_ends}
 use Rattle.unpaint.proofs.Unpainting.{run_taken, blocks_closed, closed_one}
 use Rattle.unpaint.proofs.unpaint_some.Goals.{After-block_start-start, Start, Then-is_pointer}
@@ -29,48 +30,48 @@ owns c =
     c.requires.blocks_ready.owned c.args.block (le_refl _) (omega arith) (leb-true _ _ (sym c.is_pointer.ensures ∙ c.if-is_pointer.true))
 
 -- the run that is kept may be asked from there
-asking : (c : After-block_start-start) → let a = c.args in Asking a.rules.now a.used c.block_start-start.result a.run
+asking : (c : After-block_start-start) → let a = c.args in KeptAt a.live.words.now c.block_start-start.result a.run.now
 asking c =
-    let pre = c.requires.asking in record { listed = pre.listed; kept = kept_later (omega (arith, c.block_start-start.ensures)) pre.kept }
+    kept_later (omega (arith, c.block_start-start.ensures)) c.requires.kept
 
 pub block_start-start-requires : goal.block_start-start-requires
 block_start-start-requires c = omega (arith, end (goal.at.block_start-start-requires c).Start)
 
-pub segment_cells-range-requires : goal.segment_cells-range-requires
-segment_cells-range-requires c = omega (arith, (owns (goal.at.segment_cells-range-requires c).Then-is_pointer).points)
+pub segment_cells-part-requires : goal.segment_cells-part-requires
+segment_cells-part-requires c = omega (arith, (owns (goal.at.segment_cells-part-requires c).Then-is_pointer).points)
 
-pub unpaint_run-tally-requires : goal.unpaint_run-tally-requires
-unpaint_run-tally-requires c =
-    let at = goal.at.unpaint_run-tally-requires c in
-    let run = c.segment_cells-range.ensures in record { within = segment_within c.requires.blocks_ready.sized (owns at.Then-is_pointer) (omega (arith, run.low)) (omega (arith, run.high)) (omega (arith, run.low, run.high)); in_range = omega (arith, run.high, c.block_start-start.ensures, end at.Start); asking = asking at.After-block_start-start }
+pub unpaint_run-changed-requires : goal.unpaint_run-changed-requires
+unpaint_run-changed-requires c =
+    let at = goal.at.unpaint_run-changed-requires c in
+    let run = c.segment_cells-part.ensures in record { within = segment_within c.requires.blocks_ready.sized (owns at.Then-is_pointer) (omega (arith, run.low)) (omega (arith, run.high)) (omega (arith, run.low, run.high)); in_range = omega (arith, run.high, c.block_start-start.ensures, end at.Start); kept = asking at.After-block_start-start }
 
 pub returns-then-is_pointer : goal.returns-then-is_pointer
 returns-then-is_pointer c =
     let at = goal.at.returns-then-is_pointer c in
     let a = c.args in
-    let cells = c.segment_cells-range.ensures in
-    let run = run_addressed (unpaint_cell a.length (routes a.rules.now)) a.territory (owns at.Then-is_pointer) 0 (omega (arith, cells.low))
-    (omega (arith, cells.low, cells.high)) (omega (arith, c.block_start-start.ensures)) c.unpaint_run-tally.ensures.changed in
+    let cells = c.segment_cells-part.ensures in
+    let run = run_addressed (unpaint_cell a.length (routes a.live.words.now)) a.territory (owns at.Then-is_pointer) 0 (omega (arith, cells.low))
+    (omega (arith, cells.low, cells.high)) (omega (arith, c.block_start-start.ensures)) c.unpaint_run-changed.ensures.changed in
     record {
       some = omega arith;
       within = omega (arith, c.requires.some_blocks);
       done = record {
         blocks = block_points _ _ (owns at.Then-is_pointer) (omega (arith, cells.low)) (omega (arith, cells.high)) run;
-        kept = kept_later (omega (arith, cells.high, c.block_start-start.ensures)) c.unpaint_run-tally.ensures.kept;
+        kept = kept_later (omega (arith, cells.high, c.block_start-start.ensures)) c.unpaint_run-changed.ensures.kept;
       };
     }
 
-pub run_at-kept-requires : goal.run_at-kept-requires
-run_at-kept-requires c = asking (goal.at.run_at-kept-requires c).After-block_start-start
+pub go_on-requires : goal.go_on-requires
+go_on-requires c = asking (goal.at.go_on-requires c).After-block_start-start
 
 pub piece-stop-requires : goal.piece-stop-requires
 piece-stop-requires c =
     let direct : let a = c.args in get_or a.first.now a.block 0 < pointer_bit =
     leb-false _ _ (sym c.is_pointer.ensures ∙ c.if-is_pointer.false) in
-    record { inside = record { ordered = omega arith; inside = c.requires.blocks_ready.within }; some_blocks = (omega arith, omega (arith, c.run_at-kept.ensures.past)); closed = closed_one c.args.block c.args.first.now direct }
+    record { inside = record { ordered = omega arith; inside = c.requires.blocks_ready.within }; some_blocks = (omega arith, omega (arith, c.go_on.ensures.past)); closed = closed_one c.args.block c.args.first.now direct }
 
-pub replace_run-requires : goal.replace_run-requires
-replace_run-requires c =
+pub change_run-changed-requires-clause-within : goal.change_run-changed-requires-clause-within
+change_run-changed-requires-clause-within c =
     let piece = c.piece-stop.ensures in
     record { ordered = omega (arith, piece.some); inside = omega (arith, piece.within, c.requires.blocks_ready.within); few = omega (arith, piece.few) }
 
@@ -78,7 +79,7 @@ pub returns : goal.returns
 returns c =
     let a = c.args in
     let start = c.block_start-start.ensures in
-    let found = c.run_at-kept.ensures in
+    let found = c.go_on.ensures in
     let piece = c.piece-stop.ensures in
     record {
       some = piece.some;
@@ -86,7 +87,7 @@ returns c =
       done = record {
         blocks = blocks_closed piece.closed
             (run_taken a.length (block_start a.territory) found.kept (λ k low high. (omega (arith, start), omega (arith, start, piece.fit)))
-            c.replace_run.ensures.changed (omega arith));
+            (c.change_run-changed.ensures.changed (replaced a.length c.go_on.new.run.cell) (λ x y h. search rules)) (omega arith));
         kept = kept_later (omega (arith, start, piece.some)) found.kept;
       };
     }

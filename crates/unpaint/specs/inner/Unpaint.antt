@@ -3,24 +3,22 @@
 use Rattle.std.specs.Prelude.{◌≡◌, ℕ, ◌+◌, ◌-◌, ◌*◌, ◌≤◌, ◌<◌, Bool, true, cond, not, ◌&&◌, List, eqb, length, get_or}
 use Rattle.prefix.specs.declared.Prefix.{Prefix}
 use Rattle.prefix.specs.Geometry.{block_size, block_start}
-use Rattle.cells.specs.Cells.{empty, length_of, pointer_bit}
+use Rattle.cells.specs.Cells.{empty, length_of, pointer_bit, is_pointer}
 use Rattle.cells.specs.Memory.{Tables}
 use Rattle.rules.specs.Rules.{routes}
-use Rattle.rules.specs.inner.Places.{Listed}
 use Rattle.runs.specs.declared.Run.{Run}
 use Rattle.runs.specs.inner.Kept.{Kept}
 use Rattle.tables.specs.Cellwise.{unpaint_cell}
 use Rattle.tables.specs.inner.Ranges.{RunChanged, BlocksChanged}
 
--- the rule words are listed, and the run holds at the address a
-pub record Asking (ws : List ℕ) (live a : ℕ) (run : Run) : Type 0 where
-  pub listed : Listed ws live
-  pub kept : Kept ws live a run
+-- the run holds at the address a, over words that are all live
+abbrev pub KeptAt : List ℕ → ℕ → Run → Type 0
+KeptAt ws a run = Kept ws (length ws) a run
 
--- the run holds at the address a, and ends past it
-pub record Found (ws : List ℕ) (live a : ℕ) (run : Run) : Type 0 where
+-- it does, and ends past it
+pub record Found (ws : List ℕ) (a : ℕ) (run : Run) : Type 0 where
   pub past : a < run.end
-  pub kept : Kept ws live a run
+  pub kept : KeptAt ws a run
 
 -- ---- one cell
 
@@ -32,11 +30,6 @@ stays l cell = not (not (eqb cell empty) && eqb (length_of cell) l)
 unfoldable pub replaced : ℕ → ℕ → ℕ → ℕ
 replaced l new cell = cond (stays l cell) cell new
 
--- each of the cells from..to is, and no more differ than there are
-pub record RunReplaced (l new from to : ℕ) (cells after : List ℕ) (r : ℕ) : Type 0 where
-  pub changed : RunChanged (λ i. replaced l new) from to cells after r
-  pub few : r + from ≤ to
-
 -- ---- cells that are passed over
 
 -- from..to are some of the cells
@@ -44,33 +37,19 @@ pub record Inside (from to : ℕ) (cells : List ℕ) : Type 0 where
   pub ordered : from ≤ to
   pub inside : to ≤ length cells
 
--- at is in from..to, and the cells before it stay
-pub record Skipped (l from to : ℕ) (cells : List ℕ) (at : ℕ) : Type 0 where
-  pub low : from ≤ at
-  pub high : at ≤ to
-  pub stay : (k : ℕ) → from ≤ k → k < at → stays l (get_or cells k 0) ≡ true
+-- the cells from..to pass the test
+abbrev pub Pass : (ℕ → Bool) → ℕ → ℕ → List ℕ → Type 0
+Pass test from to cells = (k : ℕ) → from ≤ k → k < to → test (get_or cells k 0) ≡ true
+
+-- a first cell is passed over: it is no pointer, and stays
+unfoldable pub passed : ℕ → ℕ → Bool
+passed l cell = not (is_pointer cell) && stays l cell
 
 -- the cells from..to are no pointers
 abbrev pub Closed : ℕ → ℕ → List ℕ → Type 0
 Closed from to cells = (k : ℕ) → from ≤ k → k < to → get_or cells k 0 < pointer_bit
 
--- the same of first cells, and those before it are no pointers
-pub record SkippedClosed (l from to : ℕ) (first : List ℕ) (at : ℕ) : Type 0 where
-  pub skipped : Skipped l from to first at
-  pub closed : Closed from at first
-
 -- ---- how far a run's cell goes
-
--- at least one, and at most each of two numbers
-pub record ReachIs (most room r : ℕ) : Type 0 where
-  pub some : 0 < r
-  pub few : r ≤ most
-  pub fit : r ≤ room
-
--- a number of blocks, at least one, that all start within the first `room` addresses
-pub record FitIs (room r : ℕ) : Type 0 where
-  pub some : 0 < r
-  pub fit : block_size * (r - 1) < room
 
 -- the blocks from..at, some of those from..to and no more than a segment has cells: all start within the first `room` addresses, and their
 -- first cells are no pointers
@@ -84,18 +63,18 @@ pub record PieceIs (room from to : ℕ) (first : List ℕ) (at : ℕ) : Type 0 w
 -- ---- what the loops leave
 
 -- the cells from..to, of the addresses from a on, are changed, and the run holds past them
-pub record RunUnpainted (l : ℕ) (ws : List ℕ) (live a from to : ℕ) (cells after : List ℕ) (r : ℕ) (run : Run) : Type 0 where
+pub record RunUnpainted (l : ℕ) (ws : List ℕ) (a from to : ℕ) (cells after : List ℕ) (r : ℕ) (run : Run) : Type 0 where
   pub changed : RunChanged (λ i. unpaint_cell l (routes ws) (a + (i - from))) from to cells after r
-  pub kept : Kept ws live (a + (to - from)) run
+  pub kept : KeptAt ws (a + (to - from)) run
 
 -- the blocks from..to are changed, and the run holds past them
-pub record BlocksUnpainted (t : Prefix) (l : ℕ) (ws : List ℕ) (live from to : ℕ) (tables : Tables) (first long : List ℕ) (r : ℕ) (run : Run) : Type 0 where
+pub record BlocksUnpainted (t : Prefix) (l : ℕ) (ws : List ℕ) (from to : ℕ) (tables : Tables) (first long : List ℕ) (r : ℕ) (run : Run) : Type 0 where
   pub blocks : BlocksChanged t (unpaint_cell l (routes ws)) from to tables first long r
-  pub kept : Kept ws live (block_start t to) run
+  pub kept : KeptAt ws (block_start t to) run
 
 -- some of the blocks from..to are, up to at
-pub record SomeUnpainted (t : Prefix) (l : ℕ) (ws : List ℕ) (live from to : ℕ) (tables : Tables) (first long : List ℕ) (r : ℕ) (run : Run) (at : ℕ)
+pub record SomeUnpainted (t : Prefix) (l : ℕ) (ws : List ℕ) (from to : ℕ) (tables : Tables) (first long : List ℕ) (r : ℕ) (run : Run) (at : ℕ)
     : Type 0 where
   pub some : from < at
   pub within : at ≤ to
-  pub done : BlocksUnpainted t l ws live from at tables first long r run
+  pub done : BlocksUnpainted t l ws from at tables first long r run

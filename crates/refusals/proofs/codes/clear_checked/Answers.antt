@@ -4,10 +4,10 @@ use mathlib.Core.Bool.{Bool, cond, not}
 use Rattle.refusals.specs.Codes.{clear_code}
 use Rattle.refusals.proofs.codes.clear_checked.Goals as goal
 
-pub returns-then-lent : goal.returns-then-lent
+pub returns-then-not-fits : goal.returns-then-not-fits
 unfolding clear_code
-returns-then-lent c = sym (ap (λ (t : Bool). cond (not t) 1 0) (sym c.lent.ensures ∙ c.if-lent.true))
+returns-then-not-fits c = sym (ap (λ (t : Bool). cond (not t) 1 0) (sym c.fits.ensures ∙ c.if-not-fits.true))
 
 pub returns : goal.returns
 unfolding clear_code
-returns c = sym (ap (λ (t : Bool). cond (not t) 1 0) (sym c.lent.ensures ∙ c.if-lent.false))
+returns c = sym (ap (λ (t : Bool). cond (not t) 1 0) (sym c.fits.ensures ∙ c.if-not-fits.false))

@@ -1,74 +1,70 @@
 -- `codes::damage_tests` meets its contract: each way out is the answer of the tests up to there. Assumes nothing.
 use mathlib.Core.Path.{◌≡◌, refl, sym, ap, subst, ◌∙◌}
-use mathlib.Core.Bool.{false≢true}
-use native.Mathlib.Omega.{arith}
-use borrow.Author.Tests.{not-false}
-use Rattle.ground.proofs.Tests.{passes, stops, if_so, if_not}
+use mathlib.Core.List.{List}
+use Prim.Native.Nat.{ℕ}
+use lib.ListN.{length, take}
+use Rattle.ground.proofs.Tests.{passes, stops, if_so, if_not, says, denies}
 use Rattle.prefix.specs.declared.geometry.Blocks.{Blocks}
 use Rattle.prefix.specs.Geometry.{touched}
+use Rattle.prefix.specs.Routes.{Route}
 use Rattle.prefix.proofs.Spans.{past_base}
-use Rattle.cells.specs.Memory.{lent_of}
+use Rattle.cells.specs.Memory.{held}
 use Rattle.rules.specs.Rules.{routes, Formed}
-use Rattle.rules.specs.inner.Places.{Listed}
+use Rattle.rules.specs.inner.Places.{Listed, PlaceIs, index_of}
 use Rattle.rules.proofs.FormTests.{formed?, formed_listed}
-use Rattle.refusals.specs.inner.Checks.{unless_damaged}
+use Rattle.rules.proofs.AllLive.{front_live, front_routes, front_place}
 use Rattle.damage.specs.inner.Walk.{sound_run, BlocksLent}
 use Rattle.damage.proofs.Soundness.{sound_run?, undamaged?}
 use Rattle.damage.proofs.Turns.{touched-lent}
-use Rattle.refusals.proofs.Refusing.{by_damage, refused_is}
-use Rattle.std.proofs.Common.{ap, not}
-use Rattle.refusals.proofs.codes.damage_tests.Goals.{After-blocks_sound, Else-not-form}
+use Rattle.refusals.proofs.Refusing.{by_damage, refused_is, accepted_is}
+use Rattle.std.proofs.Common.{not, is_ok}
+use Rattle.refusals.proofs.codes.damage_tests.Goals.{After-blocks_sound, In-Some}
 use Rattle.refusals.proofs.codes.damage_tests.Goals as goal
 
-pub returns-then-not-form : goal.returns-then-not-form
-returns-then-not-form c =
-    let m = lent_of c.args.first.now c.args.long.now c.args.owners.now c.args.rules.now in
-    let four : 4 ≡ unless_damaged c.args.territory c.args.prefix m = by_damage _ _ m (stops (undamaged? _ _ m) (λ u.
-    if_not (formed? _ _) c.form_of-form.ensures.test c.if-not-form.true u.rules)) in
-    refused_is four (omega (arith, c.refused.ensures)) (λ z. omega arith)
+pub returns-in_default : goal.returns-in_default
+returns-in_default c =
+    refused_is (by_damage c.args.territory c.args.prefix (held c.args.lent) (stops (undamaged? _ _ (held c.args.lent)) (λ u. denies (formed? _ _) c.in_default.ensures u.rules)))
 
 pub touched-blocks-requires : goal.touched-blocks-requires
 touched-blocks-requires c = let s = c.requires in past_base s.lent.sized.territory s.well_formed.0 s.well_formed.1
 
--- past the first test the rule words have their form
-formed : (c : Else-not-form) → let s = c.args in Formed s.territory s.rules.now
-formed c = if_so (formed? _ _) c.form_of-form.ensures.test c.if-not-form.false
+-- past the first test the rule words have their form, and the live ones stand for their routes
+formed : (c : In-Some) → Formed c.args.territory c.args.lent.rules.now
+formed c = says (formed? _ _) c.in-Some.ensures.test
 
-listed : (c : Else-not-form) → Listed c.args.rules.now c.form_of-form.result.used
-listed c = subst (Listed c.args.rules.now) (sym (c.form_of-form.ensures.count (not-false _ c.if-not-form.false))) (formed_listed (formed c))
+listed : (c : In-Some) → Listed c.args.lent.rules.now (length c.in-Some.live.words.now)
+listed c = subst (λ (vs : List ℕ). Listed c.args.lent.rules.now (length vs)) (sym c.in-Some.ensures.front) (formed_listed (formed c))
+
+same_routes : (c : In-Some) → routes c.in-Some.live.words.now ≡ routes c.args.lent.rules.now
+same_routes c = ap routes (c.in-Some.ensures.front ∙ sym (front_live (listed c))) ∙ front_routes (listed c)
 
 -- the second test
 sound : (c : After-blocks_sound) → let t = c.args.territory in
-    c.blocks_sound.result ≡ sound_run t (touched t c.args.prefix) (routes c.args.rules.now) (lent_of c.args.first.now c.args.long.now c.args.owners.now c.args.rules.now).tables
+    c.blocks_sound.result ≡ sound_run t (touched t c.args.prefix) (routes c.args.lent.rules.now) (held c.args.lent).tables
 sound c =
-    c.blocks_sound.ensures ∙ ap (λ (b : Blocks). sound_run c.args.territory b (routes c.args.rules.now) (lent_of c.args.first.now c.args.long.now c.args.owners.now c.args.rules.now).tables) c.touched-blocks.ensures
+    c.blocks_sound.ensures
+    ∙ ap (λ (rs : List Route). sound_run c.args.territory c.touched-blocks.result rs (held c.args.lent).tables) (same_routes (goal.at.After-blocks_sound c).In-Some)
+    ∙ ap (λ (b : Blocks). sound_run c.args.territory b (routes c.args.lent.rules.now) (held c.args.lent).tables) c.touched-blocks.ensures
 
 pub blocks_sound-requires : goal.blocks_sound-requires
 blocks_sound-requires c =
     let lent = touched-lent c.requires.lent.sized c.requires.well_formed.0 c.requires.well_formed.1 in
-    record { sized = (c.requires.lent.sized, subst (λ (b : Blocks). BlocksLent b (lent_of c.args.first.now c.args.long.now c.args.owners.now c.args.rules.now).tables) (sym c.touched-blocks.ensures) lent); listed = listed (goal.at.blocks_sound-requires c).Else-not-form }
+    (c.requires.lent.sized, subst (λ (b : Blocks). BlocksLent b (held c.args.lent).tables) (sym c.touched-blocks.ensures) lent)
 
 pub returns-then-not-blocks_sound : goal.returns-then-not-blocks_sound
 returns-then-not-blocks_sound c =
-    let m = lent_of c.args.first.now c.args.long.now c.args.owners.now c.args.rules.now in
-    let four : 4 ≡ unless_damaged c.args.territory c.args.prefix m = by_damage _ _ m (stops (undamaged? _ _ m) (λ u.
-    if_not (sound_run? _ _ _ _) (sound (goal.at.returns-then-not-blocks_sound c).After-blocks_sound) (ap not c.if-not-blocks_sound.true) u.blocks)) in
-    refused_is four (omega (arith, c.refused-then-not-blocks_sound.ensures)) (λ z. omega arith)
-
-pub find-place-requires : goal.find-place-requires
-find-place-requires c = record { listed = listed (goal.at.find-place-requires c).Else-not-form; well_formed = c.requires.well_formed.0 }
+    refused_is (by_damage c.args.territory c.args.prefix (held c.args.lent) (stops (undamaged? _ _ (held c.args.lent)) (λ u.
+    if_not (sound_run? _ _ _ _) (sound (goal.at.returns-then-not-blocks_sound c).After-blocks_sound) (ap not c.if-not-blocks_sound.true) u.blocks)))
 
 pub returns : goal.returns
 returns c =
-    let m = lent_of c.args.first.now c.args.long.now c.args.owners.now c.args.rules.now in
+    let m = held c.args.lent in
     let at = goal.at.returns c in
-    let none : 0 ≡ unless_damaged c.args.territory c.args.prefix m = by_damage _ _ m (passes (undamaged? _ _ m)
-    (record { rules = formed at.Else-not-form; blocks = if_so (sound_run? _ _ _ _) (sound at.After-blocks_sound) (ap not c.if-not-blocks_sound.false) })) in
-    record {
-      number = omega (arith, none);
-      listed = λ z. listed at.Else-not-form;
-      place = λ z. c.find-place.ensures;
-      blocks = λ z. c.touched-blocks.ensures;
-      opens = λ z. refl;
-      segment = λ z e. absurd (false≢true e);
-    }
+    let n = length c.in-Some.live.words.now in
+    let place : PlaceIs (take n m.rules) n c.args.prefix (index_of c.find.result) (is_ok c.find.result) =
+    subst (λ (vs : List ℕ). PlaceIs vs n c.args.prefix (index_of c.find.result) (is_ok c.find.result))
+    (c.in-Some.ensures.front ∙ sym (front_live (listed at.In-Some))) c.find.ensures in
+    accepted_is
+    (by_damage c.args.territory c.args.prefix m (passes (undamaged? _ _ m)
+    (record { rules = formed at.In-Some; blocks = if_so (sound_run? _ _ _ _) (sound at.After-blocks_sound) (ap not c.if-not-blocks_sound.false) })))
+    (record { listed = listed at.In-Some; place = front_place (listed at.In-Some) place; blocks = c.touched-blocks.ensures; segment = refl })

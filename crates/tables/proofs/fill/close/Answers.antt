@@ -1,7 +1,9 @@
 -- `fill::close` meets its contract: one run of 0 is the whole segment. Assumes nothing.
 use mathlib.Core.Path.{refl}
 use native.Mathlib.Omega.{arith}
+use borrow.Author.Rules.{rules}
 use Rattle.ground.proofs.Lists.{differs_small}
+use Rattle.cells.specs.Cells.{empty}
 use Rattle.tables.proofs.Ranges.{run_small}
 use Rattle.tables.proofs.Blocks.{segment_within}
 use Rattle.tables.proofs.Repaints.{block_lent, points, owns}
@@ -14,12 +16,12 @@ bounds-first-block c = omega (arith, block_lent c.requires.closable.ready c.requ
 pub segment-segment-requires : goal.segment-segment-requires
 segment-segment-requires c = omega (arith, points c.requires.closable c.requires.block_of_prefix)
 
-pub segment_cells-range-requires : goal.segment_cells-range-requires
-segment_cells-range-requires c = omega (arith, points c.requires.closable c.requires.block_of_prefix)
+pub segment_cells-run-requires : goal.segment_cells-run-requires
+segment_cells-run-requires c = omega (arith, points c.requires.closable c.requires.block_of_prefix)
 
-pub fill_run-changed-requires : goal.fill_run-changed-requires
-fill_run-changed-requires c =
-    let run = c.segment_cells-range.ensures in
+pub change_run-changed-requires-clause-within : goal.change_run-changed-requires-clause-within
+change_run-changed-requires-clause-within c =
+    let run = c.segment_cells-run.ensures in
     segment_within c.requires.closable.ready.sized (owns c.requires.closable c.requires.block_of_prefix) (omega (arith, run.low)) (omega (arith, run.high))
     (omega (arith, run.low, run.high))
 
@@ -33,10 +35,10 @@ bounds-first-block-2 c = omega (arith, block_lent c.requires.closable.ready c.re
 pub overflow_add-result : goal.overflow_add-result
 overflow_add-result c =
     let sized = c.requires.closable.ready.sized in
-    omega (arith, differs_small _ _ _ c.differ.ensures, run_small c.fill_run-changed.ensures, sized.longs, sized.few)
+    omega (arith, differs_small _ _ _ c.differ.ensures, run_small (c.change_run-changed.ensures.changed (λ x. empty) (λ x y h. search rules)), sized.longs, sized.few)
 
 pub returns : goal.returns
 returns c =
-    let run = c.segment_cells-range.ensures in
+    let run = c.segment_cells-run.ensures in
     closed c.requires.closable c.requires.block_of_prefix _ c.segment-segment.ensures (omega (arith, c.segment-segment.ensures, run.low)) (omega (arith, run.high)) refl (omega arith)
-    c.fill_run-changed.ensures c.differ.ensures
+    (c.change_run-changed.ensures.changed (λ x. empty) (λ x y h. search rules)) c.differ.ensures

@@ -3,10 +3,12 @@
 use mathlib.Core.Path.{◌≡◌, ap}
 use Prim.Native.Nat.{◌+◌}
 use native.Mathlib.Omega.{arith}
+use borrow.Author.Rules.{rules}
 use Rattle.prefix.specs.declared.geometry.Blocks.{Blocks}
 use Rattle.prefix.specs.Geometry.{block_of}
 use Rattle.cells.specs.Memory.{tables_of}
 use Rattle.cells.proofs.Lending.{few_firsts}
+use Rattle.tables.specs.Cellwise.{paint_cell}
 use Rattle.tables.specs.inner.Ready.{Closable}
 use Rattle.tables.specs.inner.Ranges.{BlocksReady}
 use Rattle.tables.proofs.Repaints.{block_lent, blocks_ready, blocks-repainted, closable, points, owns, run_within, run_repainted}
@@ -50,19 +52,19 @@ segment-requires c =
     let at = goal.at.segment-requires c in
     omega (arith, points (open_block at.Else-length-le-WIDTH) (from at.Start))
 
-pub prefix_cells-range-requires : goal.prefix_cells-range-requires
-prefix_cells-range-requires c =
-    let at = goal.at.prefix_cells-range-requires c in
+pub prefix_cells-run-requires : goal.prefix_cells-run-requires
+prefix_cells-run-requires c =
+    let at = goal.at.prefix_cells-run-requires c in
     let o = open_block at.Else-length-le-WIDTH in
     let lent = (owns o (from at.Start)).lent in
     record { segment_fits = omega (arith, c.segment.ensures, o.ready.sized.few); is_long = (omega (arith, c.if-length-le-WIDTH.false), o.ready.formed.short) }
 
-pub paint_run-requires : goal.paint_run-requires
-paint_run-requires c =
-    let at = goal.at.paint_run-requires c in
-    run_within (open_block at.Else-length-le-WIDTH) (from at.Start) c.segment.ensures c.prefix_cells-range.ensures
+pub change_run-requires-clause-within : goal.change_run-requires-clause-within
+change_run-requires-clause-within c =
+    let at = goal.at.change_run-requires-clause-within c in
+    run_within (open_block at.Else-length-le-WIDTH) (from at.Start) c.segment.ensures c.prefix_cells-run.ensures
 
 pub returns : goal.returns
 returns c =
     let at = goal.at.returns c in
-    run_repainted (open_block at.Else-length-le-WIDTH) (from at.Start) c.segment.ensures c.prefix_cells-range.ensures _ c.paint_run.ensures
+    run_repainted (open_block at.Else-length-le-WIDTH) (from at.Start) c.segment.ensures c.prefix_cells-run.ensures _ (c.change_run.ensures.changed (paint_cell c.args.prefix.length c.args.new) (λ x y h. search rules))

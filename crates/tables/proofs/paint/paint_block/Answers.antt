@@ -2,8 +2,10 @@
 -- not, that cell is. Assumes nothing.
 use mathlib.Core.Path.{sym, ◌∙◌}
 use native.Mathlib.Omega.{arith}
+use borrow.Author.Rules.{rules}
 use borrow.Author.Tests.{leb-true, leb-false}
 use Rattle.cells.specs.Memory.{tables_of}
+use Rattle.tables.specs.Cellwise.{paint_cell}
 use Rattle.tables.specs.inner.Ready.{segment_at, Owns}
 use Rattle.tables.proofs.Blocks.{block_direct, block_points, owns_one, segment_within}
 use Rattle.tables.proofs.paint.paint_block.Goals.{Then-is_pointer}
@@ -13,18 +15,18 @@ use Rattle.tables.proofs.paint.paint_block.Goals as goal
 owns : (c : Then-is_pointer) → let a = c.args in let T = tables_of a.first.now a.long.now a.owners.now in Owns T a.block (segment_at T a.block)
 owns c = owns_one c.requires (leb-true _ _ (sym c.is_pointer.ensures ∙ c.if-is_pointer.true))
 
-pub segment_cells-range-requires : goal.segment_cells-range-requires
-segment_cells-range-requires c = omega (arith, (owns (goal.at.segment_cells-range-requires c).Then-is_pointer).points)
+pub segment_cells-run-requires : goal.segment_cells-run-requires
+segment_cells-run-requires c = omega (arith, (owns (goal.at.segment_cells-run-requires c).Then-is_pointer).points)
 
-pub paint_run-requires : goal.paint_run-requires
-paint_run-requires c =
-    let run = c.segment_cells-range.ensures in
-    segment_within c.requires.sized (owns (goal.at.paint_run-requires c).Then-is_pointer) (omega (arith, run.low)) (omega (arith, run.high)) (omega (arith, run.low, run.high))
+pub change_run-requires-clause-within : goal.change_run-requires-clause-within
+change_run-requires-clause-within c =
+    let run = c.segment_cells-run.ensures in
+    segment_within c.requires.sized (owns (goal.at.change_run-requires-clause-within c).Then-is_pointer) (omega (arith, run.low)) (omega (arith, run.high)) (omega (arith, run.low, run.high))
 
 pub returns-then-is_pointer : goal.returns-then-is_pointer
 returns-then-is_pointer c =
-    let run = c.segment_cells-range.ensures in
-    block_points _ _ (owns (goal.at.returns-then-is_pointer c).Then-is_pointer) (omega (arith, run.low)) (omega (arith, run.high)) c.paint_run.ensures
+    let run = c.segment_cells-run.ensures in
+    block_points _ _ (owns (goal.at.returns-then-is_pointer c).Then-is_pointer) (omega (arith, run.low)) (omega (arith, run.high)) (c.change_run.ensures.changed (paint_cell c.args.length c.args.new) (λ x y h. search rules))
 
 pub returns : goal.returns
 returns c =

@@ -17,9 +17,9 @@ own_block : (c : Start) → c.args.blocks.from ≡ block_of c.args.territory c.a
 own_block c = ap (λ (x : Blocks). x.from) c.requires.touched_blocks
 
 -- the test is whether the block closes
-closing : (c : After-closes_block) → c.closes_block.result ≡ closes c.args.territory c.args.prefix (routes c.args.rules.now)
+closing : (c : After-closes_block) → c.closes_block.result ≡ closes c.args.territory c.args.prefix (routes c.args.live.words.now)
 closing c =
-    closes_here c.requires.repaintable (routes c.args.rules.now) (own_block (goal.at.After-closes_block c).Start) c.block_start-start.ensures c.closes_block.ensures
+    closes_here c.requires.repaintable (routes c.args.live.words.now) (own_block (goal.at.After-closes_block c).Start) c.block_start-start.ensures c.closes_block.ensures
 
 pub block_start-start-requires : goal.block_start-start-requires
 block_start-start-requires c =
@@ -28,23 +28,23 @@ block_start-start-requires c =
 
 pub closes_block-requires : goal.closes_block-requires
 closes_block-requires c =
-    record { listed = c.requires.listed; aligned = omega (arith, c.block_start-start.ensures, aligned c.requires.repaintable.ready.sized.territory) }
+    omega (arith, c.block_start-start.ensures, aligned c.requires.repaintable.ready.sized.territory)
 
 pub close-requires : goal.close-requires
 close-requires c =
     let at = goal.at.close-requires c in
-    record { closable = closable c.requires.repaintable (routes c.args.rules.now) (own_block at.Start) c.block_start-start.ensures (sym (closing at.After-closes_block) ∙ c.if-closes_block.true); block_of_prefix = own_block at.Start }
+    record { closable = closable c.requires.repaintable (routes c.args.live.words.now) (own_block at.Start) c.block_start-start.ensures (sym (closing at.After-closes_block) ∙ c.if-closes_block.true); block_of_prefix = own_block at.Start }
 
 pub returns-then-closes_block : goal.returns-then-closes_block
 returns-then-closes_block c =
     let at = goal.at.returns-then-closes_block c in
-    unpainted_closed c.requires.repaintable (routes c.args.rules.now) (own_block at.Start) c.block_start-start.ensures (sym (closing at.After-closes_block) ∙ c.if-closes_block.true)
+    unpainted_closed c.requires.repaintable (routes c.args.live.words.now) (own_block at.Start) c.block_start-start.ensures (sym (closing at.After-closes_block) ∙ c.if-closes_block.true)
     c.close.ensures (omega (arith, c.longest-run.ensures.is))
 
 pub unpaint-requires : goal.unpaint-requires
-unpaint-requires c = let s = c.requires in record { repaintable = s.repaintable; touched_blocks = s.touched_blocks; listed = s.listed }
+unpaint-requires c = let s = c.requires in record { repaintable = s.repaintable; touched_blocks = s.touched_blocks }
 
 pub returns : goal.returns
 returns c =
     let at = goal.at.returns c in
-    unpainted_open c.requires.repaintable (routes c.args.rules.now) (own_block at.Start) c.block_start-start.ensures (sym (closing at.After-closes_block) ∙ c.if-closes_block.false) c.unpaint.ensures
+    unpainted_open c.requires.repaintable (routes c.args.live.words.now) (own_block at.Start) c.block_start-start.ensures (sym (closing at.After-closes_block) ∙ c.if-closes_block.false) c.unpaint.ensures

@@ -1,6 +1,0 @@
--- `blocks::cursor_at` meets its contract: before the shortest prefix of the address stand the rules of lower addresses. Assumes nothing.
-use Rattle.rules.proofs.Cursor.{cursor_from}
-use Rattle.rules.proofs.blocks.cursor_at.Goals as goal
-
-pub returns : goal.returns
-returns c = cursor_from c.args.address c.requires c.key_of.ensures c.position.ensures
