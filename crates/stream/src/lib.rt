@@ -4,7 +4,7 @@
 
 ghost use Rattle.std.specs.Prelude.{◌≡◌, ◌≤◌, length};
 ghost use Rattle.cells.specs.Memory.{lent_of};
-ghost use Rattle.updates.specs.Calls.{reported, step};
+ghost use Rattle.updates.specs.Calls.{reported, report_of, step};
 ghost use Rattle.stream.specs.Stream.{call_of, records_in};
 ghost use Rattle.stream.specs.Taking.{TurnIs, TakenIs};
 
@@ -49,8 +49,8 @@ fn take_update(
     rules: &mut [u64],
     territory: Prefix,
     update: Update,
-) -> Report
-    ensures { reported result (lent_of first.new long.new owners.new rules.new)
+) -> Result<u32, Refusal>
+    ensures { reported (report_of result) (lent_of first.new long.new owners.new rules.new)
         ≡ step territory (call_of update) (lent_of first.old long.old owners.old rules.old) }
 {
     let prefix = Prefix {
@@ -80,7 +80,7 @@ fn take_record(
     ensures { TurnIs territory bytes.now expected (lent_of first.old long.old owners.old rules.old) result (lent_of first.new long.new owners.new rules.new) }
 {
     let update = records::read(bytes, expected)?;
-    let report = take_update(first, long, owners, rules, territory, update);
+    let report = Report::from(take_update(first, long, owners, rules, territory, update));
     Ok(Line {
         serial: update.serial,
         code: report.code,
