@@ -1,15 +1,15 @@
--- Counting the words that are not 0, one after another: what holds before each word; and how many rule words of a history are not 0.
--- Assumes nothing.
+-- How many words of a list are not 0: as a test counts them, and of the rule words of a history. Assumes nothing.
 use mathlib.Core.Path.{◌≡◌, refl, ap, ◌∙◌}
 use mathlib.Core.List.Memᴰ.{head as here}
 use mathlib.Core.List.Memᴰ.{tail as there}
 use mathlib.Core.List.{List, [], ◌∷◌, ◌++◌, map}
-use Prim.Native.Nat.{ℕ, zero, suc, ◌+◌, ◌-◌, ◌≤◌, ◌<◌}
+use Prim.Native.Nat.{ℕ, zero, suc, ◌+◌, ◌-◌}
 use native.Mathlib.Omega.{arith}
-use lib.ListN.{length, get_or, replicate}
+use Rattle.std.proofs.Common.{sym, length, get_or, replicate, count_by, Bool, true, false, ◌==◌, not, cond}
+use Rattle.std.proofs.lemmas.List.Recursion.{is_count_by}
 use Rattle.ground.specs.Sums.{sum}
 use Rattle.ground.specs.Lists.{differs}
-use Rattle.ground.proofs.Lists.{differs_small, differs-same, differs-other}
+use Rattle.ground.proofs.Lists.{differs-same, differs-other}
 use Rattle.ground.proofs.Sums.{sum_front}
 use Rattle.prefix.specs.declared.Prefix.{Prefix}
 use Rattle.prefix.specs.declared.Route.{Route}
@@ -22,38 +22,18 @@ use Rattle.history.specs.History.{History, memory, live}
 use Rattle.history.proofs.Histories.{inv_history}
 use Rattle.stream.specs.Stream.{used}
 
--- of the first i words, n are not 0
-pub record Counted (words : List ℕ) (n i : ℕ) : Type 0 where
-  pub within : i ≤ length words
-  pub small : n ≤ i
-  pub count : n ≡ sum i (λ k. differs (get_or words k 0) 0)
-
-pub counted_none : (words : List ℕ) → Counted words 0 0
-unfolding sum
-counted_none words = record { within = omega arith; small = omega arith; count = refl }
-
-pub counted_more : {words : List ℕ} {n i d : ℕ} → i < length words → d ≡ differs (get_or words i 0) 0 → Counted words n i → Counted words (n + d) (i + 1)
-unfolding sum
-counted_more {words} {n} {i} {d} below e known =
-    let next : suc i ≡ i + 1 = omega arith in
-    let s = differs_small (get_or words i 0) 0 d e in
-    record {
-      within = omega arith;
-      small = omega (arith, s, known.small);
-      count =
-          ap (λ (k : ℕ). k + d) known.count ∙ ap (λ (k : ℕ). sum i (λ j. differs (get_or words j 0) 0) + k) e
-          ∙ ap (λ (k : ℕ). sum k (λ j. differs (get_or words j 0) 0)) next;
-    }
-
-pub counted_all : {words : List ℕ} {n i : ℕ} → length words ≤ i → Counted words n i → n ≡ used words
-counted_all {words} {n} {i} end known =
-    let whole : i ≡ length words = omega (arith, known.within, end) in
-    known.count ∙ ap (λ (k : ℕ). sum k (λ j. differs (get_or words j 0) 0)) whole
-
--- ---- the rule words of a history
 
 used-cons : (w : ℕ) (ws : List ℕ) → used (w ∷ ws) ≡ differs w 0 + used ws
 used-cons w ws = sum_front (length ws) (λ i. differs (get_or (w ∷ ws) i 0) 0)
+
+-- the words that a test on them counts
+pub used_counted : (words : List ℕ) → count_by (λ w. not (w == 0)) words ≡ used words
+unfolding sum differs
+used_counted words = sym (is_count_by used (λ w. not (w == 0)) refl (λ w ws. used-cons w ws ∙ more (w == 0) (used ws)) words)
+  where
+    more : (is_zero : Bool) (n : ℕ) → cond is_zero 0 1 + n ≡ cond (not is_zero) (1 + n) n
+    more true n = omega arith
+    more false n = omega arith
 
 used-zeros : (k : ℕ) → used (replicate k 0) ≡ 0
 unfolding sum

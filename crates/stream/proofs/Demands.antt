@@ -15,7 +15,7 @@ use Rattle.history.specs.History.{History, start, ◌then◌, memory, report, li
 use Rattle.prefix.specs.Routes.{named}
 use Rattle.history.proofs.Demand2.{demand_2}
 use Rattle.history.proofs.Demand3.{demand_3}
-use Rattle.stream.specs.Stream.{call_of, goes_on, lent_after, lines_of}
+use Rattle.stream.specs.Stream.{call_of, goes_on, lent_after, line_of, lines_of}
 use Rattle.stream.proofs.Streams.{memory-goes_on}
 
 module _ (t : Prefix) (m : Lent) where
@@ -27,7 +27,7 @@ module _ (t : Prefix) (m : Lent) where
   -- each line is the serial of its update, and what its call reported in the history so far
   pub line_is_report : (h : History) (u : Update) (us : List Update)
       → lines_of t (memory t m h) (u ∷ us)
-      ≡ u.serial ∷ (report t m h (call_of u)).code ∷ (report t m h (call_of u)).cells ∷ lines_of t (memory t m (h then call_of u)) us
+      ≡ line_of u (report t m h (call_of u)) ∷ lines_of t (memory t m (h then call_of u)) us
   unfolding lines_of memory report
   line_is_report h u us = refl
 

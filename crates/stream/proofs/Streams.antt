@@ -16,8 +16,7 @@ use Rattle.records.proofs.RoundTrip.{read_alike}
 use Rattle.cells.specs.Memory.{Lent}
 use Rattle.history.specs.History.{History, ◌then◌, memory}
 use Rattle.updates.specs.Calls.{step}
-use Rattle.stream.specs.declared.Step.{Step}
-use Rattle.stream.specs.declared.Step.TheVariants.{Expects, Refused}
+use Rattle.stream.specs.Stream.{Step, Expects, Refused}
 use Rattle.stream.specs.Stream.{Stream, refused_at, first_then, of_records, records_in, stream_of, call_of, goes_on, lent_after}
 
 -- ---- record by record

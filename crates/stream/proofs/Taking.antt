@@ -1,154 +1,127 @@
 -- What holds before each record of a loop over some bytes: the records that are left lead, from the memory as it is, where all of them
 -- lead from the memory at entry. Assumes nothing.
-use mathlib.Core.Path.{◌≡◌, refl, sym, ap, subst, ◌∙◌}
-use mathlib.Core.List.{List, [], ◌∷◌, ◌++◌, append-nil, append_assoc}
-use Prim.Native.Nat.{ℕ, suc, ◌+◌, ◌-◌, ◌*◌, ◌≤◌, ◌<◌}
-use native.Mathlib.Omega.{arith}
-use lib.ListN.{length, set, take, drop, length-drop, length-append}
-use lib.Seq.{sets-eq, take_at, drop-append-add, drop-drop}
-use borrow.Author.Rules.{part_to_end}
+use Rattle.std.proofs.Common.{◌≡◌, refl, sym, ap, ap₂, subst, ◌∙◌, ℕ, suc, ◌+◌, ◌≤◌, ◌<◌, min, arith, Result, Ok, Err}
+use Rattle.std.proofs.Common.{List, [], ◌∷◌, ◌++◌, append-nil, append_assoc, length, set, take, drop, length-append, length-set}
+use Rattle.std.proofs.Common.{take-append-drop, drop-drop, drop_at}
+use Rattle.std.proofs.lemmas.List.{take-append-le, take_more_set, drop-set-lt, nil_from_length}
+use Rattle.ground.specs.declared.refusal.Refusal.{Refusal}
+use Rattle.ground.specs.Refusals.{number}
+use Rattle.ground.proofs.Refusals.{number_some}
+use Rattle.ground.proofs.Tests.{eqb?, by_test}
 use Rattle.prefix.specs.declared.Prefix.{Prefix}
+use Rattle.records.specs.declared.Reading.{Reading}
 use Rattle.records.specs.Record.{size, read_as, next_serial}
+use Rattle.records.proofs.RoundTrip.{read_alike}
 use Rattle.cells.specs.Memory.{Lent}
 use Rattle.updates.specs.Calls.{Outcome}
-use Rattle.stream.specs.declared.Step.{Step}
-use Rattle.stream.specs.declared.Step.TheVariants.{Expects, Refused}
-use Rattle.stream.specs.declared.Turn.{Turn}
-use Rattle.stream.specs.Stream.{Stream, first_then, stream_of, lent_after, lines_of}
+use Rattle.stream.specs.declared.Line.{Line}
+use Rattle.stream.specs.Stream.{Stream, step_of, refused_at, first_then, stream_of, records_in, lent_after, lines_of}
 use Rattle.stream.specs.Taking.{TurnIs, TakenIs}
 use Rattle.stream.proofs.Streams.{stream_none, stream_more, stream_refused, accepted_whole}
 
--- a line by three stores
-pub line_put : (lines : List ℕ) (at a b c serial code cells : ℕ) → at + 3 ≤ length lines → a ≡ serial → b ≡ code → c ≡ cells
-    → set (set (set lines at a) (at + 1) b) (at + 2) c ≡ take at lines ++ (serial ∷ code ∷ cells ∷ drop (at + 3) lines)
-line_put lines at a b c serial code cells room ea eb ec =
-    let one : at + 1 ≡ suc at = omega arith in
-    let two : at + 2 ≡ suc (suc at) = omega arith in
-    let line = serial ∷ code ∷ cells ∷ [] in
-    simp (ea, eb, ec, one, two) (sets-eq line lines at room ∙ append_assoc (take at lines) line (drop (at + 3) lines))
+-- what the next chunk of 15 bytes is: the start of what is left, and all of it where no 15 are left
+pub record Cut (rest chunk others : List ℕ) : Type 0 where
+  pub parts : rest ≡ chunk ++ others
+  pub long : length chunk ≡ min 15 (length rest)
+  pub some : 0 < length rest
 
--- of lines that begin with the words `done`, and go on as at entry: the next line put after them
-next_line : (lines done ls line : List ℕ) (n : ℕ) → length done ≡ n → ls ≡ done ++ drop n lines
-    → take n ls ++ (line ++ drop (n + 3) ls) ≡ done ++ line ++ drop (n + 3) lines
-next_line lines done ls line n long e =
-    let front : take n ls ≡ done = ap (take n) e ∙ take_at done (drop n lines) n long in
-    let back : drop (n + 3) ls ≡ drop (n + 3) lines =
-    ap (drop (n + 3)) e ∙ ap (λ (k : ℕ). drop (k + 3) (done ++ drop n lines)) (sym long) ∙ drop-append-add done (drop n lines) 3 ∙ drop-drop 3 n lines in
-    ap (λ (x : List ℕ). x ++ (line ++ drop (n + 3) ls)) front ∙ ap (λ (x : List ℕ). done ++ (line ++ x)) back ∙ sym (append_assoc done line (drop (n + 3) lines))
+pub cut_by : {n : ℕ} {rest chunk others : List ℕ} → n ≡ 15 → (rest ≡ chunk ++ others) × (length chunk ≡ min n (length rest)) × (0 < length rest)
+    → Cut rest chunk others
+cut_by {rest = rest} fifteen step = record { parts = step.0; long = step.1 ∙ ap (λ (k : ℕ). min k (length rest)) fifteen; some = step.2 }
 
-module _ (t : Prefix) (bytes : List ℕ) (expected : ℕ) (m : Lent) (lines : List ℕ) where
-  -- before the record at `at`, with `count` taken: n is the memory, ls the lines, and `done` the words put so far
-  pub record Going (n : Lent) (ls : List ℕ) (next count at : ℕ) : Type 0 where
-    pub place : at ≡ 15 * count
-    pub within : at ≤ length bytes
-    pub stands : (stream_of (drop at bytes) next).step ≡ (stream_of bytes expected).step
-    pub counted : count + length (stream_of (drop at bytes) next).updates ≡ length (stream_of bytes expected).updates
-    pub lent : lent_after t n (stream_of (drop at bytes) next).updates ≡ lent_after t m (stream_of bytes expected).updates
-    pub done : List ℕ
-    pub long : length done ≡ 3 * count
-    pub words : ls ≡ done ++ drop (3 * count) lines
-    pub printed : done ++ lines_of t n (stream_of (drop at bytes) next).updates ≡ lines_of t m (stream_of bytes expected).updates
+-- reading the chunk is reading what is left
+cut_alike : {rest chunk others : List ℕ} → Cut rest chunk others → (next : ℕ) → read_as rest next ≡ read_as chunk next
+cut_alike {rest} {chunk} {others} C next =
+    let all : length rest ≡ length chunk + length others = ap length C.parts ∙ length-append chunk others in
+    by_test (eqb? (length others) 0)
+    (λ z. ap (λ (b : List ℕ). read_as b next) (C.parts ∙ ap (λ (ys : List ℕ). chunk ++ ys) (nil_from_length others z) ∙ append-nil chunk))
+    (λ z.
+    let whole : 15 ≤ length chunk = omega (arith, C.long) in
+    read_alike rest chunk next (omega arith) whole (ap (take 15) C.parts ∙ take-append-le 15 chunk others whole))
 
-  pub going_start : Going m lines expected 0 0
-  going_start = record {
-    place = refl;
-    within = omega arith;
-    stands = refl;
-    counted = omega arith;
-    lent = refl;
-    done = [];
-    long = refl;
-    words = refl;
-    printed = refl;
-  }
+module _ (t : Prefix) (bytes : List ℕ) (expected : ℕ) (m : Lent) (lines : List Line) where
+  -- before the record that `rest` begins with, with `count` taken: n is the memory, and ls the lines
+  pub record Going (n : Lent) (ls : List Line) (next count : ℕ) (rest : List ℕ) : Type 0 where
+    pub stands : (stream_of rest next).step ≡ (stream_of bytes expected).step
+    pub counted : count + length (stream_of rest next).updates ≡ length (stream_of bytes expected).updates
+    pub lent : lent_after t n (stream_of rest next).updates ≡ lent_after t m (stream_of bytes expected).updates
+    pub room : count + records_in rest ≤ length ls
+    pub put : take count ls ++ lines_of t n (stream_of rest next).updates ≡ lines_of t m (stream_of bytes expected).updates
+    pub kept : drop count ls ≡ drop count lines
+
+  pub going_start : {rest : List ℕ} → rest ≡ bytes → records_in bytes ≤ length lines → Going m lines expected 0 rest
+  going_start whole room =
+      subst (Going m lines expected 0) (sym whole)
+      (record { stands = refl; counted = omega arith; lent = refl; room = omega arith; put = refl; kept = refl })
 
   -- no record is left, or none that is accepted: that is what all bytes come to
-  ends : {n : Lent} {ls : List ℕ} {next count at : ℕ} {s : Step} → Going n ls next count at
-      → stream_of (drop at bytes) next ≡ record { updates = []; step = s }
-      → TakenIs t bytes expected m lines (record { step = s; count = count }) n ls
+  ends : {n : Lent} {ls : List Line} {next count : ℕ} {rest : List ℕ} {step : Result ℕ Refusal} → Going n ls next count rest
+      → stream_of rest next ≡ record { updates = []; step = step_of step }
+      → TakenIs t bytes expected m lines (record { step = step; count = count }) n ls
   unfolding lent_after lines_of
-  ends {n} {ls} {next} {count} {at} {s} G e =
-      let none : length (stream_of (drop at bytes) next).updates ≡ 0 = ap (λ (x : Stream). length x.updates) e in
+  ends {n} {ls} {next} {count} {rest} {step} G e =
+      let none : length (stream_of rest next).updates ≡ 0 = ap (λ (x : Stream). length x.updates) e in
       record {
         stands = sym (ap (λ (x : Stream). x.step) e) ∙ G.stands;
         count = omega (arith, G.counted);
         lent = sym (ap (λ (x : Stream). lent_after t n x.updates) e) ∙ G.lent;
         printed =
-            G.words
-            ∙ ap (λ (x : List ℕ). x ++ drop (3 * count) lines)
-            (sym (append-nil G.done) ∙ sym (ap (λ (x : Stream). G.done ++ lines_of t n x.updates) e) ∙ G.printed);
+            sym (take-append-drop count ls)
+            ∙ ap₂ ◌++◌ (sym (append-nil (take count ls)) ∙ sym (ap (λ (x : Stream). take count ls ++ lines_of t n x.updates) e) ∙ G.put) G.kept;
       }
 
-  pub going_done : {n : Lent} {ls : List ℕ} {next count at : ℕ} → Going n ls next count at → length bytes ≤ at
-      → TakenIs t bytes expected m lines (record { step = Expects next; count = count }) n ls
-  going_done {next = next} {at = at} G all = ends G (stream_none (drop at bytes) next (omega (arith, length-drop at bytes)))
+  pub going_done : {n : Lent} {ls : List Line} {next count : ℕ} {rest : List ℕ} → Going n ls next count rest → length rest ≡ 0
+      → TakenIs t bytes expected m lines (record { step = Ok next; count = count }) n ls
+  going_done {next = next} {rest = rest} G all = ends G (stream_none rest next all)
 
-  -- what the record came to that the rest of the slice begins with
-  abbrev Turned : (next at : ℕ) → Lent → Turn → Lent → Type 0
-  Turned next at n r n' = TurnIs t (take (length bytes - at) (drop at bytes)) next n r n'
+  -- there is room for the next line
+  pub going_room : {n : Lent} {ls : List Line} {next count : ℕ} {rest chunk others : List ℕ} → Going n ls next count rest → Cut rest chunk others
+      → count < length ls
+  going_room G C = omega (arith, G.room, C.some)
 
-  turned : (next at : ℕ) {n n' : Lent} {r : Turn} → Turned next at n r n' → TurnIs t (drop at bytes) next n r n'
-  turned next at {n} {n'} {r} = subst (λ (b : List ℕ). TurnIs t b next n r n') (part_to_end bytes at)
+  module _ {n n' : Lent} {ls : List Line} {next count : ℕ} {rest chunk others : List ℕ} (G : Going n ls next count rest) (C : Cut rest chunk others) where
+    pub going_refused : {r : Refusal} → TurnIs t chunk next n (Err r) n' → TakenIs t bytes expected m lines (record { step = Err r; count = count }) n' ls
+    going_refused {r} T =
+        let number_is : number r ≡ (read_as rest next).code = T.number ∙ sym (ap (λ (x : Reading). x.code) (cut_alike C next)) in
+        let e = stream_refused rest next C.some (λ z. let zero : number r ≡ 0 = number_is ∙ z in cc (number_some r)) in
+        let at_entry : TakenIs t bytes expected m lines (record { step = Err r; count = count }) n ls =
+        ends G (e ∙ ap refused_at (sym number_is)) in
+        record { stands = at_entry.stands; count = at_entry.count; lent = T.kept ∙ at_entry.lent; printed = at_entry.printed }
 
-  pub going_refused : {n n' : Lent} {ls : List ℕ} {next count at : ℕ} {r : Turn} → Going n ls next count at → at < length bytes
-      → Turned next at n r n' → ¬ (r.code ≡ 0) → {number : ℕ} → number ≡ r.code
-      → TakenIs t bytes expected m lines (record { step = Refused number; count = count }) n' ls
-  going_refused {n} {n'} {ls} {next} {count} {at} {r} G more turn refused {number} told =
-      let T = turned next at turn in
-      let e = stream_refused (drop at bytes) next (omega (arith, length-drop at bytes)) (λ z. refused (T.number ∙ z)) in
-      let at_entry : TakenIs t bytes expected m lines (record { step = Refused number; count = count }) n ls =
-      ends G (e ∙ ap (λ (k : ℕ). record { updates = []; step = Refused k }) (sym (told ∙ T.number))) in
-      record {
-        stands = at_entry.stands;
-        count = at_entry.count;
-        lent = T.kept refused ∙ at_entry.lent;
-        printed = at_entry.printed;
-      }
-
-  module _ {n n' : Lent} {ls : List ℕ} {next count at : ℕ} {r : Turn} (G : Going n ls next count at) (turn : Turned next at n r n')
-      (accepted : r.code ≡ 0) where
-    abbrev T : TurnIs t (drop at bytes) next n r n'
-    T = turned next at turn
-
-    abbrev z : (read_as (drop at bytes) next).code ≡ 0
-    z = sym T.number ∙ accepted
-
-    pub record_whole : at + size ≤ length bytes
-    record_whole = omega (arith, accepted_whole (drop at bytes) next z, length-drop at bytes)
-
-    pub going_more : {next' : ℕ} {ls' : List ℕ} → next' ≡ next_serial r.serial
-        → ls' ≡ take (3 * count) ls ++ (r.serial ∷ r.report.code ∷ r.report.cells ∷ drop (3 * count + 3) ls)
-        → Going n' ls' next' (count + 1) (at + size)
+    pub going_more : {line : Line} {next' : ℕ} → TurnIs t chunk next n (Ok line) n' → next' ≡ next_serial line.serial
+        → Going n' (set ls count line) next' (count + 1) others
     unfolding lent_after lines_of
-    going_more {next'} {ls'} follows put =
-        let u = (read_as (drop at bytes) next).update in
-        let serial = T.serial accepted in
-        let line = r.serial ∷ r.report.code ∷ r.report.cells ∷ [] in
-        let rest = stream_of (drop (at + size) bytes) next' in
-        let e : stream_of (drop at bytes) next ≡ first_then u rest =
-        stream_more (drop at bytes) next z
-        ∙ ap (λ (b : List ℕ). first_then u (stream_of b (next_serial u.serial))) (drop-drop size at bytes)
-        ∙ ap (λ (k : ℕ). first_then u (stream_of (drop (at + size) bytes) k)) (sym (follows ∙ ap next_serial serial)) in
-        let one : length (stream_of (drop at bytes) next).updates ≡ suc (length rest.updates) = ap (λ (x : Stream). length x.updates) e in
-        let o = T.taken accepted in
-        let three : 3 * (count + 1) ≡ 3 * count + 3 = omega arith in
+    going_more {line} {next'} T follows =
+        let reading = cut_alike C next in
+        let z : (read_as rest next).code ≡ 0 = ap (λ (x : Reading). x.code) reading ∙ sym T.number in
+        let whole = accepted_whole chunk next (sym T.number) in
+        let u = (read_as chunk next).update in
+        let left : drop size rest ≡ others =
+        let fifteen : length chunk ≡ size = omega (arith, C.long, whole) in
+        ap (drop size) C.parts ∙ drop_at chunk others size fifteen in
+        let after = stream_of others next' in
+        let e : stream_of rest next ≡ first_then u after =
+        stream_more rest next z
+        ∙ ap (λ (x : Reading). first_then x.update (stream_of (drop size rest) (next_serial x.update.serial))) reading
+        ∙ ap (λ (b : List ℕ). first_then u (stream_of b (next_serial u.serial))) left
+        ∙ ap (λ (k : ℕ). first_then u (stream_of others k)) (sym (follows ∙ ap next_serial T.serial)) in
+        let one : length (stream_of rest next).updates ≡ suc (length after.updates) = ap (λ (x : Stream). length x.updates) e in
+        let below = going_room G C in
         record {
-          place = omega (arith, G.place);
-          within = record_whole;
           stands = sym (ap (λ (x : Stream). x.step) e) ∙ G.stands;
           counted = omega (arith, G.counted);
           lent =
-              ap (λ (x : Outcome). lent_after t x.lent rest.updates) o
+              ap (λ (x : Outcome). lent_after t x.lent after.updates) T.taken
               ∙ sym (ap (λ (x : Stream). lent_after t n x.updates) e) ∙ G.lent;
-          done = G.done ++ line;
-          long = length-append G.done line ∙ omega (arith, G.long);
-          words =
-              put ∙ next_line lines G.done ls line (3 * count) G.long G.words
-              ∙ ap (λ (k : ℕ). (G.done ++ line) ++ drop k lines) (sym three);
-          printed =
-              append_assoc G.done line (lines_of t n' rest.updates)
-              ∙ ap (λ (k : ℕ). G.done ++ (k ∷ r.report.code ∷ r.report.cells ∷ lines_of t n' rest.updates)) serial
-              ∙ ap (λ (x : Outcome). G.done ++ (u.serial ∷ x.report.code ∷ x.report.cells ∷ lines_of t x.lent rest.updates)) o
-              ∙ sym (ap (λ (x : Stream). G.done ++ lines_of t n x.updates) e)
-              ∙ G.printed;
+          room = omega (arith, length-set ls count line, G.room, ap length C.parts, length-append chunk others, whole);
+          put =
+              ap (λ (done : List Line). done ++ lines_of t n' after.updates) (take_more_set ls count line below)
+              ∙ append_assoc (take count ls) (line ∷ []) (lines_of t n' after.updates)
+              ∙ ap (λ (k : ℕ). take count ls ++ (record { serial = k; code = line.code; cells = line.cells } ∷ lines_of t n' after.updates)) T.serial
+              ∙ ap (λ (x : Outcome). take count ls ++ (record { serial = u.serial; code = x.report.code; cells = x.report.cells } ∷ lines_of t x.lent after.updates)) T.taken
+              ∙ sym (ap (λ (x : Stream). take count ls ++ lines_of t n x.updates) e)
+              ∙ G.put;
+          kept =
+              drop-set-lt (count + 1) ls count line (omega arith)
+              ∙ sym (drop-drop 1 count ls) ∙ ap (drop 1) G.kept ∙ drop-drop 1 count lines;
         }

@@ -1,7 +1,9 @@
 -- A stream of update records as a function of its bytes: which updates its records carry, in which order, each under its serial, until the
 -- bytes end or a record is refused. And what those updates leave in the lent memory, and the lines that are printed for them.
 -- Assumes nothing.
-use Rattle.std.specs.Prelude.{ℕ, zero, suc, ◌+◌, ◌/◌, cond, List, [], ◌∷◌, eqb, length, get_or, drop}
+use Rattle.std.specs.Prelude.{ℕ, zero, suc, ◌+◌, ◌/◌, cond, List, [], ◌∷◌, eqb, length, get_or, drop, Result, Ok, Err}
+use Rattle.ground.specs.declared.refusal.Refusal.{Refusal}
+use Rattle.ground.specs.Refusals.{number}
 use Rattle.ground.specs.Sums.{sum}
 use Rattle.ground.specs.Lists.{differs}
 use Rattle.prefix.specs.declared.Prefix.{Prefix}
@@ -11,11 +13,21 @@ use Rattle.rules.specs.Words.{route_by}
 use Rattle.cells.specs.Memory.{Lent}
 use Rattle.refusals.specs.Codes.{Call, announces, withdraws, re_homes}
 use Rattle.history.specs.History.{History, ◌then◌}
+use Rattle.updates.specs.declared.Report.{Report}
 use Rattle.updates.specs.Calls.{step}
-use Rattle.stream.specs.declared.Step.{Step}
-use Rattle.stream.specs.declared.Step.TheVariants.{Expects, Refused}
+use Rattle.stream.specs.declared.Line.{Line}
 
 -- ---- the updates of a stream
+
+-- where a stream stands: it expects a record of this serial next, or it ended with the number of a record that reading refused
+pub data Step : Type 0 where
+  Expects : ℕ → Step
+  Refused : ℕ → Step
+
+-- as a function answers it
+abbrev pub step_of : Result ℕ Refusal → Step
+step_of (Ok serial) = Expects serial
+step_of (Err r) = Refused (number r)
 
 -- the updates that some bytes of a stream carry, in order, and where it stands then
 pub record Stream : Type 0 where
@@ -70,11 +82,14 @@ lent_after t m [] = m
 lent_after t m (u ∷ us) = lent_after t (step t (call_of u) m).lent us
 
 -- the lines: for each update its serial, the number that the tables answered and the cells that it changed
-unfoldable pub lines_of : Prefix → Lent → List Update → List ℕ
+abbrev pub line_of : Update → Report → Line
+line_of u r = record { serial = u.serial; code = r.code; cells = r.cells }
+
+unfoldable pub lines_of : Prefix → Lent → List Update → List Line
 lines_of t m [] = []
 lines_of t m (u ∷ us) =
     let o = step t (call_of u) m in
-    u.serial ∷ o.report.code ∷ o.report.cells ∷ lines_of t o.lent us
+    line_of u o.report ∷ lines_of t o.lent us
 
 -- ---- the last line
 

@@ -1,39 +1,44 @@
 // A stream of update records, from bytes in a slice: each record is read under its serial, its update is taken into the tables, and the
-// line to be printed for it is left as three words. No input and no output happens here, so all of it is exact.
+// line to be printed for it is left. No input and no output happens here, so all of it is exact.
 #![tactic(auto)]
 
-ghost use Rattle.std.specs.Prelude.{◌≡◌, ◌+◌, ◌*◌, ◌≤◌, ◌∷◌, ◌++◌, length, take, drop};
+ghost use Rattle.std.specs.Prelude.{◌≡◌, ◌≤◌, length};
 ghost use Rattle.cells.specs.Memory.{lent_of};
-ghost use Rattle.updates.specs.Calls.{reported, step};
+ghost use Rattle.updates.specs.Calls.{reported, report_of, step};
 ghost use Rattle.stream.specs.Stream.{call_of, records_in};
 ghost use Rattle.stream.specs.Taking.{TurnIs, TakenIs};
 
 pub mod counts;
 
+use ground::refusal::Refusal;
 use prefix::Prefix;
 use records::{Kind, Update};
+use std::fmt;
 use updates::Report;
 
-// Where a stream stands: it expects a record of this serial next, or it ended with the number of a record that reading refused.
-#[derive(Clone, Copy)]
-pub enum Step {
-    Expects(u32),
-    Refused(u32),
+// The line of a record: its serial, and what the tables answered its update, 0 or a refusal's number and the cells that changed.
+#[derive(Clone, Copy, Default)]
+pub struct Line {
+    pub serial: u32,
+    pub code: u32,
+    pub cells: u32,
 }
 
-// What some bytes of a stream came to, and how many records of theirs were taken.
+impl fmt::Display for Line {
+    fn fmt<W: fmt::Write>(&self, f: &mut fmt::Formatter<W>) -> fmt::Result {
+        let serial = self.serial;
+        let code = self.code;
+        let cells = self.cells;
+        write!(f, "{serial} {code} {cells}\n")
+    }
+}
+
+// What some bytes of a stream came to: where it stands, that is the serial that it expects next or why reading refused a record, which
+// ends it; and how many records were taken.
 #[derive(Clone, Copy)]
 pub struct Taken {
-    pub step: Step,
+    pub step: Result<u32, Refusal>,
     pub count: usize,
-}
-
-// What one record came to: the number that reading gave; with 0 its serial, and what the tables answered.
-#[derive(Clone, Copy)]
-struct Turn {
-    code: u32,
-    serial: u32,
-    report: Report,
 }
 
 // Takes an update into the tables, by its kind: reading lets only the three kinds pass.
@@ -44,8 +49,8 @@ fn take_update(
     rules: &mut [u64],
     territory: Prefix,
     update: Update,
-) -> Report
-    ensures { reported result (lent_of first.new long.new owners.new rules.new)
+) -> Result<u32, Refusal>
+    ensures { reported (report_of result) (lent_of first.new long.new owners.new rules.new)
         ≡ step territory (call_of update) (lent_of first.old long.old owners.old rules.old) }
 {
     let prefix = Prefix {
@@ -71,40 +76,19 @@ fn take_record(
     territory: Prefix,
     bytes: &[u8],
     expected: u32,
-) -> Turn
+) -> Result<Line, Refusal>
     ensures { TurnIs territory bytes.now expected (lent_of first.old long.old owners.old rules.old) result (lent_of first.new long.new owners.new rules.new) }
 {
-    match records::read(bytes, expected) {
-        Ok(update) => {
-            let report = take_update(first, long, owners, rules, territory, update);
-            Turn {
-                code: 0,
-                serial: update.serial,
-                report,
-            }
-        }
-        Err(refusal) => Turn {
-            code: refusal.into(),
-            serial: 0,
-            report: Report { code: 0, cells: 0 },
-        },
-    }
+    let update = records::read(bytes, expected)?;
+    let report = Report::from(take_update(first, long, owners, rules, territory, update));
+    Ok(Line {
+        serial: update.serial,
+        code: report.code,
+        cells: report.cells,
+    })
 }
 
-// Leaves the line of a record, after the lines of `before` others.
-fn put_line(lines: &mut [u32], before: usize, serial: u32, report: Report)
-    requires { 3 * before + 3 ≤ length lines.old }
-    ensures { lines.new ≡ take (3 * before) lines.old
-        ++ (serial ∷ report.code ∷ report.cells ∷ drop (3 * before + 3) lines.old) }
-{
-    let at = 3 * before;
-    lines[at] = serial;
-    lines[at + 1] = report.code;
-    lines[at + 2] = report.cells;
-}
-
-// Takes the records of some bytes, one after another, until the bytes end or a record is refused; the last record may be cut short. A
-// line is three words: serial, number and cells.
+// Takes the records of some bytes, one after another, until the bytes end or a record is refused; the last record may be cut short.
 pub fn take_records(
     first: &mut [u32],
     long: &mut [u32],
@@ -113,30 +97,29 @@ pub fn take_records(
     territory: Prefix,
     bytes: &[u8],
     expected: u32,
-    lines: &mut [u32],
+    lines: &mut [Line],
 ) -> Taken
-    requires { 3 * records_in bytes.now ≤ length lines.old }
+    requires { records_in bytes.now ≤ length lines.old }
     ensures { TakenIs territory bytes.now expected (lent_of first.old long.old owners.old rules.old) lines.old result
         (lent_of first.new long.new owners.new rules.new) lines.new }
 {
     let mut next = expected;
     let mut count = 0;
-    let mut at = 0;
-    while at < bytes.len() {
-        let turn = take_record(first, long, owners, rules, territory, &bytes[at..], next);
-        if turn.code != 0 {
-            return Taken {
-                step: Step::Refused(turn.code),
+    for record in bytes.chunks(Update::SIZE) {
+        match take_record(first, long, owners, rules, territory, record, next) {
+            Ok(line) => {
+                lines[count] = line;
+                count += 1;
+                next = records::next_serial(line.serial);
+            }
+            Err(refusal) => return Taken {
+                step: Err(refusal),
                 count,
-            };
+            },
         }
-        put_line(lines, count, turn.serial, turn.report);
-        next = records::next_serial(turn.serial);
-        count += 1;
-        at += Update::SIZE;
     }
     Taken {
-        step: Step::Expects(next),
+        step: Ok(next),
         count,
     }
 }

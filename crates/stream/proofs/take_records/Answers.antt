@@ -1,41 +1,35 @@
 -- The goals that the check leaves.
-use mathlib.Core.Path.{◌≡◌, refl}
-use Prim.Native.Nat.{◌+◌, ◌≤◌}
-use native.Mathlib.Omega.{arith}
-use lib.ListN.{length}
-use Rattle.stream.proofs.Taking.{going_start, going_done, going_refused, going_more, record_whole}
-use borrow.Author.Rules.{rules}
+use Rattle.std.proofs.Common.{refl, ap, ◌∙◌, rules}
+use Rattle.stream.proofs.Taking.{Cut, cut_by, going_start, going_done, going_refused, going_room, going_more}
+use Rattle.stream.proofs.take_records.Goals.{In-Some}
 use Rattle.stream.proofs.take_records.Goals as goal
 
-pub loop-at-init : goal.loop-at-init
-loop-at-init c = (refl, refl, refl, refl, refl, going_start _ _ _ _ _)
+pub loop-record-init : goal.loop-record-init
+loop-record-init c =
+    let made = c.into_iter-record-iterator.ensures.into_iter_gives in
+    let chunks = c.chunks-record-items.ensures in
+    (refl, refl, refl, refl, refl, ap (λ s. s.size) made ∙ chunks.size, going_start _ _ _ _ _ (ap (λ s. s.rest.now) made ∙ chunks.rest) c.requires)
 
-pub returns-then-turn-ne0 : goal.returns-then-turn-ne0
-returns-then-turn-ne0 c =
-    let refused : ¬ (c.take_record-turn.result.code ≡ 0) = omega (arith, c.if-turn-ne0.true) in
-    going_refused _ _ _ _ _ c.loop-at.invariant.5 c.loop-at-test.true c.take_record-turn.ensures refused (omega arith)
+-- the chunk of an iteration
+cut : (c : In-Some) → Cut c.loop-record.record-iterator.rest.now c.in-Some.record.now c.next.new.self.rest.now
+cut c = cut_by c.loop-record.invariant.5 c.in-Some.ensures.steps.1
 
-pub overflow_add-count : goal.overflow_add-count
-overflow_add-count c =
-    omega (arith, c.loop-at.invariant.5.place, c.loop-at.invariant.5.within)
+pub bounds-lines-count : goal.bounds-lines-count
+bounds-lines-count c = going_room _ _ _ _ _ c.loop-record.invariant.6 (cut (goal.at.bounds-lines-count c).In-Some)
 
-pub overflow_add-at : goal.overflow_add-at
-overflow_add-at c =
-    let next-record : c.loop-at.at + 15 ≤ length c.args.bytes.now =
-    let zero : c.take_record-turn.result.code ≡ 0 = omega (arith, c.if-turn-ne0.false) in
-    record_whole _ _ _ _ _ c.loop-at.invariant.5 c.take_record-turn.ensures zero in
-    omega (arith, next-record, c.well_formed)
+pub loop-record-preserved : goal.loop-record-preserved
+loop-record-preserved c = (
+  search rules,
+  search rules,
+  search rules,
+  search rules,
+  search rules,
+  search rules,
+  going_more _ _ _ _ _ c.loop-record.invariant.6 (cut (goal.at.loop-record-preserved c).In-Some) c.in-Ok.ensures c.next_serial-next.ensures,
+)
 
-pub loop-at-preserved : goal.loop-at-preserved
-loop-at-preserved c =
-    let zero : c.take_record-turn.result.code ≡ 0 = omega (arith, c.if-turn-ne0.false) in (
-      search rules,
-      search rules,
-      search rules,
-      search rules,
-      search rules,
-      going_more _ _ _ _ _ c.loop-at.invariant.5 c.take_record-turn.ensures zero (omega (arith, c.next_serial-next.ensures)) c.put_line.ensures,
-    )
+pub returns-in-Err : goal.returns-in-Err
+returns-in-Err c = going_refused _ _ _ _ _ c.loop-record.invariant.6 (cut (goal.at.returns-in-Err c).In-Some) c.in-Err.ensures
 
 pub returns : goal.returns
-returns c = going_done _ _ _ _ _ c.loop-at.invariant.5 c.loop-at-test.false
+returns c = going_done _ _ _ _ _ c.loop-record.invariant.6 c.in-None.ensures.steps.1.0
