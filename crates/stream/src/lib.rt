@@ -11,7 +11,7 @@ ghost use Rattle.stream.specs.Taking.{TurnIs, TakenIs};
 pub mod counts;
 
 use ground::refusal::Refusal;
-use prefix::Prefix;
+use prefix::{Prefix, Route};
 use records::{Kind, Update};
 use std::fmt;
 use updates::Report;
@@ -57,13 +57,14 @@ fn take_update(
         address: update.address,
         length: update.length as u32,
     };
-    let hop = update.hop as u32;
+    let route = Route {
+        prefix,
+        hop: update.hop as u32,
+    };
     match Kind::try_from(update.kind) {
-        Ok(Kind::Announce) => updates::announce(first, long, owners, rules, territory, prefix, hop),
+        Ok(Kind::Announce) => updates::announce(first, long, owners, rules, territory, route),
         Ok(Kind::Withdraw) => updates::withdraw(first, long, owners, rules, territory, prefix),
-        Ok(Kind::ReHome) | Err(_) => updates::re_home(
-            first, long, owners, rules, territory, prefix, hop,
-        ),
+        Ok(Kind::ReHome) | Err(_) => updates::re_home(first, long, owners, rules, territory, route),
     }
 }
 
