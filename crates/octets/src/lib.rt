@@ -29,19 +29,14 @@ pub fn clear_octets(octets: &mut [u64]) -> Result<(), Refusal>
     Ok(())
 }
 
-// Whether look up's number refuses a record: any refusal does but "no route". The two are selected and not jumped to, since no processor
+// Whether look up's number refuses a record: any refusal does but "no route". Both are asked and neither is jumped to, since no processor
 // foresees whether the next address has a route.
 #[tactic(auto, unfolding(crate::specs::Booking::refusal_of))]
 fn refuses(number: u32) -> bool
     ensures { result ≡ not (eqb (refusal_of (unpacked_of number).code) 0) }
 {
     let code = Packed::code(number);
-    let refused = if code == u32::from(Refusal::NoRoute) {
-        0
-    } else {
-        code
-    };
-    refused != 0
+    (code != 0) & (code != u32::from(Refusal::NoRoute))
 }
 
 // Books an amount by look up's number. The hop of "no route" is 0, and so is its word.
