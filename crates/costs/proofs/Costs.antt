@@ -159,10 +159,6 @@ module _ (a b : ℕ) where
   unfolding tie_broken
   broken_first s t e = ap (λ (u : Bool). cond u true (cond t false (ltb a b))) e
 
-  pub broken_second : (s t : Bool) → s ≡ false → t ≡ true → tie_broken s t a b ≡ false
-  unfolding tie_broken
-  broken_second s t e f = ap₂ (λ (u v : Bool). cond u true (cond v false (ltb a b))) e f
-
   pub broken_third : (s t : Bool) → s ≡ false → t ≡ false → tie_broken s t a b ≡ ltb a b
   unfolding tie_broken
   broken_third s t e f = ap₂ (λ (u v : Bool). cond u true (cond v false (ltb a b))) e f

@@ -6,9 +6,9 @@ use mathlib.Core.Logic.{◌⊎◌, inl, inr}
 use Prim.Native.Nat.{ℕ, ◌*◌, ◌^◌, ◌<◌, ◌≤◌}
 use native.Mathlib.Nat.{mul-one, mul-pos, mul_assoc, mul_comm, mul_left_comm, eq-zero-or-pos, zero-mul}
 use native.Mathlib.Omega.{arith}
-use lib.Dec.{T, eqb, ltb, lit<, le→leb, ltb→lt, eqb→eq}
+use lib.Dec.{T, eqb, ltb, lit<, ltb→lt, eqb→eq}
 use lib.IntN.{pos, negsuc}
-use lib.Ieee.{Float, nan, inf, fin, Format, binary64, up, down, round, of_int, in_float, div, lt, eq, le}
+use lib.Ieee.{Float, nan, inf, fin, Format, binary64, up, down, round, of_int, div, lt, eq, le}
 use lib.Ieee.Fits.{down_pos, and_l}
 use lib.Ieee.Exact.{HasValue}
 use lib.Ieee.Back.{round_whole}
@@ -20,10 +20,6 @@ use Rattle.ground.proofs.Cases.{by_lt}
 use Rattle.costs.specs.Lines.{rate_of, RateSays}
 
 -- ---- the casts lose nothing
-
-pub castable : (n : ℕ) → n ≤ 2 ^ 53 → T (in_float binary64 (pos n))
-unfolding in_float
-castable n h = le→leb n (2 ^ 53) h
 
 cast_value : (n : ℕ) → n ≤ 2 ^ 53 → HasValue (of_int binary64 (pos n)) false n 1
 unfolding of_int

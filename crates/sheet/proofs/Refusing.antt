@@ -1,10 +1,10 @@
--- When the sheet is refused: what its tests decide, and the outcome of each way out. Assumes nothing.
+-- When the sheet is refused: what its tests decide. Assumes nothing.
 use mathlib.Core.Path.{◌≡◌, refl, sym, ap, ◌∙◌}
 use mathlib.Core.Bool.{◌&&◌}
 use mathlib.Core.List.{List, [], ◌∷◌}
-use Prim.Native.Nat.{ℕ, zero, suc, ◌+◌, ◌-◌, ◌≤◌, ◌<◌, zero-le}
+use Prim.Native.Nat.{ℕ, zero, suc, ◌+◌, ◌-◌, ◌≤◌, zero-le}
 use native.Mathlib.Omega.{arith}
-use lib.Dec.{eqb, leb, lit<}
+use lib.Dec.{eqb, leb}
 use lib.ListN.{length, get_or, drop}
 use lib.Seq.{get_or-drop}
 use Rattle.prefix.specs.Routes.{last_hop}
@@ -42,7 +42,7 @@ within? from words =
     (λ h k l. omega (arith, h (k - from), get_or-drop from words (k - from) 0, place words (from + (k - from)) k (omega arith)))
     (λ h k. omega (arith, h (from + k) (omega arith), get_or-drop from words k 0))
 
--- ---- the tests, and the ways out
+-- ---- the tests
 
 abbrev Sizes : List ℕ → List ℕ → List ℕ → Type 0
 Sizes os cs hops = ((length os ≡ word_count) × (length cs ≡ word_count)) × (length hops ≡ last_hop)
@@ -72,18 +72,6 @@ module _ (os cs hops : List ℕ) where
   code_0 : Tested os cs hops → sheet_code os cs hops ≡ 0
   unfolding sheet_code
   code_0 t = cond_on _ _ sizes? t.sizes ∙ (cond_on _ _ (within? 0 os) t.octets ∙ cond_on _ _ (within? 1 cs) t.cents)
-
-  refused_as : (k : ℕ) → sheet_code os cs hops ≡ k → 0 < k → SheetIs os cs hops k hops
-  refused_as k e h = record { code_is = sym e; refused = λ n. refl; filled = λ z. absurd (omega arith) }
-
-  pub refused_1 : (Sizes os cs hops → ⊥) → SheetIs os cs hops 1 hops
-  refused_1 n = refused_as 1 (code_1 n) (lit< tt)
-
-  pub refused_30 : Sizes os cs hops → (Small 0 os → ⊥) → SheetIs os cs hops 30 hops
-  refused_30 s n = refused_as 30 (code_30 s n) (lit< tt)
-
-  pub refused_31 : Sizes os cs hops → Small 0 os → (Small 1 cs → ⊥) → SheetIs os cs hops 31 hops
-  refused_31 s o n = refused_as 31 (code_31 s o n) (lit< tt)
 
 pub filled_0 : {os cs hops hops' : List ℕ} → Tested os cs hops → Ranked os cs hops' → SheetIs os cs hops 0 hops'
 filled_0 {os} {cs} {hops} t r = record { code_is = sym (code_0 os cs hops t); refused = λ n. absurd (n refl); filled = λ e. r }
