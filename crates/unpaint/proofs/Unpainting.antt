@@ -137,12 +137,13 @@ blocks_passed l rs {t} {T} {first} {long} {from} {mid} {to} {r} p low high pass 
 pub each_more : (P : ℕ → Type 0) {from i : ℕ} → ((k : ℕ) → from ≤ k → k < i → P k) → P i → (k : ℕ) → from ≤ k → k < i + 1 → P k
 each_more P {i = i} f p k low high = by_lt k i (f k low) (λ ge. let e : i ≡ k = omega arith in subst P e p)
 
--- no pointer is among the cells from..to, by themselves
-pub closed_part : (first : List ℕ) {from to : ℕ} → to ≤ length first → All (λ cell. cell < pointer_bit) (between from to first) → Closed from to first
-closed_part first {from} {to} inside all k low high =
+-- no pointer is among the cells from..end, by themselves
+pub closed_part : (first : List ℕ) {from to end : ℕ} → All (λ cell. cell < pointer_bit) (between from end first) → to ≤ end → end ≤ length first
+    → Closed from to first
+closed_part first {from} {to} {end} all most inside k low high =
     let at : from + (k - from) ≡ k = omega arith in
-    let here = get_or-between first from to (k - from) 0 (omega arith) in
-    rw (here, at) at (all (k - from) 0 (omega (arith, length-between first from to inside)))
+    let here = get_or-between first from end (k - from) 0 (omega arith) in
+    rw (here, at) at (all (k - from) 0 (omega (arith, length-between first from end inside)))
 
 pub closed_one : (b : ℕ) (first : List ℕ) → get_or first b 0 < pointer_bit → Closed b (b + 1) first
 closed_one b first direct = each_more (λ k. get_or first k 0 < pointer_bit) (λ k low high. absurd (omega arith)) direct

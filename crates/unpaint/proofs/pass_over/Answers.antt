@@ -4,9 +4,6 @@ use native.Mathlib.Omega.{arith}
 use Rattle.unpaint.proofs.Unpainting.{each_more}
 use Rattle.unpaint.proofs.pass_over.Goals as goal
 
-pub returns-then-not-passes-clause-passed : goal.returns-then-not-passes-clause-passed
-returns-then-not-passes-clause-passed g c = c.loop-i.invariant
-
 pub loop-i-preserved : goal.loop-i-preserved
 loop-i-preserved g c test h = each_more _ (c.loop-i.invariant test h) (sym (h _ _ c.passes.ensures) ∙ c.if-not-passes.false)
 

@@ -11,5 +11,5 @@ returns-then-none_open c =
       within = omega arith;
       few = omega arith;
       fit = omega arith;
-      closed = closed_part c.args.first.now (omega (arith, c.requires.inside.inside)) (c.none_open.ensures c.if-none_open.true);
+      closed = closed_part c.args.first.now (c.none_open.ensures c.if-none_open.true) (omega arith) (omega (arith, c.requires.inside.inside));
     }

@@ -8,13 +8,12 @@ use Rattle.prefix.specs.Geometry.{block_of}
 use Rattle.prefix.proofs.Prefixes.{ends_within}
 use Rattle.prefix.proofs.Spans.{starts}
 use Rattle.cells.specs.Memory.{tables_of}
-use Rattle.cells.proofs.Lending.{few_firsts}
 use Rattle.rules.specs.Rules.{routes}
 use Rattle.runs.proofs.Covered.{kept_later}
 use Rattle.tables.specs.Cellwise.{unpaint_cell}
 use Rattle.tables.specs.inner.Ready.{Closable}
 use Rattle.tables.specs.inner.Ranges.{BlocksReady}
-use Rattle.tables.proofs.Repaints.{block_lent, blocks_ready, blocks-repainted, closable, points, owns, run_within, run_counted, run_repainted}
+use Rattle.tables.proofs.Repaints.{blocks_ready, blocks-repainted, closable, run_within, run_counted, run_repainted}
 use Rattle.unpaint.proofs.unpaint.Goals.{Else-length-le-WIDTH, Start, Then-length-le-WIDTH}
 use Rattle.unpaint.proofs.unpaint.Goals as goal
 
@@ -31,11 +30,6 @@ ready c = blocks_ready c.requires.repaintable.ready c.if-length-le-WIDTH.true c.
 open_block : (c : Else-length-le-WIDTH) → let a = c.args in Closable a.territory a.prefix (tables_of a.first.now a.long.now a.owners.now)
 open_block c = closable c.requires.repaintable c.if-length-le-WIDTH.false
 
-pub overflow_add-to : goal.overflow_add-to
-overflow_add-to c =
-    let lent = ready (goal.at.overflow_add-to c).Then-length-le-WIDTH in
-    omega (arith, lent.within, few_firsts lent.sized)
-
 pub unpaint_blocks-requires : goal.unpaint_blocks-requires
 unpaint_blocks-requires c =
     let at = goal.at.unpaint_blocks-requires c in
@@ -46,25 +40,6 @@ unpaint_blocks-requires c =
 pub returns-then-length-le-WIDTH : goal.returns-then-length-le-WIDTH
 returns-then-length-le-WIDTH c =
     blocks-repainted c.requires.repaintable.ready c.if-length-le-WIDTH.true c.requires.touched_blocks _ c.unpaint_blocks.ensures.blocks
-
-pub offset_bounds-first-block : goal.offset_bounds-first-block
-offset_bounds-first-block c =
-    omega (arith, block_lent c.requires.repaintable.ready (from (goal.at.offset_bounds-first-block c).Start), few_firsts c.requires.repaintable.ready.sized)
-
-pub bounds-first-block : goal.bounds-first-block
-bounds-first-block c = omega (arith, block_lent c.requires.repaintable.ready (from (goal.at.bounds-first-block c).Start))
-
-pub segment-requires : goal.segment-requires
-segment-requires c =
-    let at = goal.at.segment-requires c in
-    omega (arith, points (open_block at.Else-length-le-WIDTH) (from at.Start))
-
-pub prefix_cells-part-requires : goal.prefix_cells-part-requires
-prefix_cells-part-requires c =
-    let at = goal.at.prefix_cells-part-requires c in
-    let o = open_block at.Else-length-le-WIDTH in
-    let lent = (owns o (from at.Start)).lent in
-    record { segment_fits = omega (arith, c.segment.ensures, o.ready.sized.few); is_long = (omega (arith, c.if-length-le-WIDTH.false), o.ready.formed.short) }
 
 pub unpaint_run-requires : goal.unpaint_run-requires
 unpaint_run-requires c =

@@ -1,14 +1,12 @@
 -- `unpaint_some` meets its contract. Where the first block's cell is a pointer, its segment is repainted and nothing else is; where
 -- it is not, a piece of first cells takes the cell of the run. Assumes nothing.
 use mathlib.Core.Path.{sym, ◌∙◌}
-use Prim.Native.Nat.{◌+◌, ◌^◌, ◌≤◌, ◌<◌}
+use Prim.Native.Nat.{◌+◌, ◌^◌, ◌≤◌}
 use native.Mathlib.Nat.{le_refl}
 use native.Mathlib.Omega.{arith}
-use lib.ListN.{get_or}
-use borrow.Author.Tests.{leb-true, leb-false}
+use borrow.Author.Tests.{leb-true}
 use borrow.Author.Rules.{rules}
 use Rattle.prefix.specs.Geometry.{block_start}
-use Rattle.cells.specs.Cells.{pointer_bit}
 use Rattle.cells.specs.Memory.{tables_of}
 use Rattle.rules.specs.Rules.{routes}
 use Rattle.runs.proofs.Covered.{kept_later}
@@ -16,7 +14,7 @@ use Rattle.tables.specs.Cellwise.{unpaint_cell}
 use Rattle.tables.specs.inner.Ready.{segment_at, Owns}
 use Rattle.unpaint.specs.inner.Unpaint.{KeptAt, replaced}
 use Rattle.tables.proofs.Blocks.{block_points, segment_within, run_addressed, block_ends}
-use Rattle.unpaint.proofs.Unpainting.{run_taken, blocks_closed, closed_one}
+use Rattle.unpaint.proofs.Unpainting.{run_taken, blocks_closed}
 use Rattle.unpaint.proofs.unpaint_some.Goals.{After-block_start-start, Start, Then-is_pointer}
 use Rattle.unpaint.proofs.unpaint_some.Goals as goal
 
@@ -36,9 +34,6 @@ asking c =
 
 pub block_start-start-requires : goal.block_start-start-requires
 block_start-start-requires c = omega (arith, end (goal.at.block_start-start-requires c).Start)
-
-pub segment_cells-part-requires : goal.segment_cells-part-requires
-segment_cells-part-requires c = omega (arith, (owns (goal.at.segment_cells-part-requires c).Then-is_pointer).points)
 
 pub unpaint_run-changed-requires : goal.unpaint_run-changed-requires
 unpaint_run-changed-requires c =
@@ -60,20 +55,6 @@ returns-then-is_pointer c =
         kept = kept_later (omega (arith, cells.high, c.block_start-start.ensures)) c.unpaint_run-changed.ensures.kept;
       };
     }
-
-pub go_on-requires : goal.go_on-requires
-go_on-requires c = asking (goal.at.go_on-requires c).After-block_start-start
-
-pub piece-stop-requires : goal.piece-stop-requires
-piece-stop-requires c =
-    let direct : let a = c.args in get_or a.first.now a.block 0 < pointer_bit =
-    leb-false _ _ (sym c.is_pointer.ensures ∙ c.if-is_pointer.false) in
-    record { inside = record { ordered = omega arith; inside = c.requires.blocks_ready.within }; some_blocks = (omega arith, omega (arith, c.go_on.ensures.past)); closed = closed_one c.args.block c.args.first.now direct }
-
-pub change_run-changed-requires-clause-within : goal.change_run-changed-requires-clause-within
-change_run-changed-requires-clause-within c =
-    let piece = c.piece-stop.ensures in
-    record { ordered = omega (arith, piece.some); inside = omega (arith, piece.within, c.requires.blocks_ready.within); few = omega (arith, piece.few) }
 
 pub returns : goal.returns
 returns c =

@@ -2,16 +2,14 @@
 -- Assumes nothing.
 use mathlib.Core.Path.{◌≡◌, ap}
 use Prim.Native.Nat.{◌+◌}
-use native.Mathlib.Omega.{arith}
 use borrow.Author.Rules.{rules}
 use Rattle.prefix.specs.declared.geometry.Blocks.{Blocks}
 use Rattle.prefix.specs.Geometry.{block_of}
 use Rattle.cells.specs.Memory.{tables_of}
-use Rattle.cells.proofs.Lending.{few_firsts}
 use Rattle.tables.specs.Cellwise.{paint_cell}
 use Rattle.tables.specs.inner.Ready.{Closable}
 use Rattle.tables.specs.inner.Ranges.{BlocksReady}
-use Rattle.tables.proofs.Repaints.{block_lent, blocks_ready, blocks-repainted, closable, points, owns, run_within, run_repainted}
+use Rattle.tables.proofs.Repaints.{blocks_ready, blocks-repainted, closable, run_within, run_repainted}
 use Rattle.tables.proofs.paint.paint.Goals.{Else-length-le-WIDTH, Start, Then-length-le-WIDTH}
 use Rattle.tables.proofs.paint.paint.Goals as goal
 
@@ -28,36 +26,12 @@ ready c = blocks_ready c.requires.repaintable.ready c.if-length-le-WIDTH.true c.
 open_block : (c : Else-length-le-WIDTH) → let a = c.args in Closable a.territory a.prefix (tables_of a.first.now a.long.now a.owners.now)
 open_block c = closable c.requires.repaintable c.if-length-le-WIDTH.false
 
-pub overflow_add-to : goal.overflow_add-to
-overflow_add-to c =
-    let lent = ready (goal.at.overflow_add-to c).Then-length-le-WIDTH in
-    omega (arith, lent.within, few_firsts lent.sized)
-
 pub paint_blocks-requires : goal.paint_blocks-requires
 paint_blocks-requires c = ready (goal.at.paint_blocks-requires c).Then-length-le-WIDTH
 
 pub returns-then-length-le-WIDTH : goal.returns-then-length-le-WIDTH
 returns-then-length-le-WIDTH c =
     blocks-repainted c.requires.repaintable.ready c.if-length-le-WIDTH.true c.requires.touched_blocks _ c.paint_blocks.ensures
-
-pub offset_bounds-first-block : goal.offset_bounds-first-block
-offset_bounds-first-block c =
-    omega (arith, block_lent c.requires.repaintable.ready (from (goal.at.offset_bounds-first-block c).Start), few_firsts c.requires.repaintable.ready.sized)
-
-pub bounds-first-block : goal.bounds-first-block
-bounds-first-block c = omega (arith, block_lent c.requires.repaintable.ready (from (goal.at.bounds-first-block c).Start))
-
-pub segment-requires : goal.segment-requires
-segment-requires c =
-    let at = goal.at.segment-requires c in
-    omega (arith, points (open_block at.Else-length-le-WIDTH) (from at.Start))
-
-pub prefix_cells-run-requires : goal.prefix_cells-run-requires
-prefix_cells-run-requires c =
-    let at = goal.at.prefix_cells-run-requires c in
-    let o = open_block at.Else-length-le-WIDTH in
-    let lent = (owns o (from at.Start)).lent in
-    record { segment_fits = omega (arith, c.segment.ensures, o.ready.sized.few); is_long = (omega (arith, c.if-length-le-WIDTH.false), o.ready.formed.short) }
 
 pub change_run-requires-clause-within : goal.change_run-requires-clause-within
 change_run-requires-clause-within c =

@@ -7,21 +7,13 @@ use borrow.Author.Tests.{leb-true, leb-false}
 use Rattle.cells.specs.Memory.{tables_of}
 use Rattle.tables.specs.Cellwise.{paint_cell}
 use Rattle.tables.specs.inner.Ready.{segment_at, Owns}
-use Rattle.tables.proofs.Blocks.{block_direct, block_points, owns_one, segment_within}
+use Rattle.tables.proofs.Blocks.{block_direct, block_points, owns_one}
 use Rattle.tables.proofs.paint.paint_block.Goals.{Then-is_pointer}
 use Rattle.tables.proofs.paint.paint_block.Goals as goal
 
 -- the first cell is a pointer, and the segment is the block's own
 owns : (c : Then-is_pointer) → let a = c.args in let T = tables_of a.first.now a.long.now a.owners.now in Owns T a.block (segment_at T a.block)
 owns c = owns_one c.requires (leb-true _ _ (sym c.is_pointer.ensures ∙ c.if-is_pointer.true))
-
-pub segment_cells-run-requires : goal.segment_cells-run-requires
-segment_cells-run-requires c = omega (arith, (owns (goal.at.segment_cells-run-requires c).Then-is_pointer).points)
-
-pub change_run-requires-clause-within : goal.change_run-requires-clause-within
-change_run-requires-clause-within c =
-    let run = c.segment_cells-run.ensures in
-    segment_within c.requires.sized (owns (goal.at.change_run-requires-clause-within c).Then-is_pointer) (omega (arith, run.low)) (omega (arith, run.high)) (omega (arith, run.low, run.high))
 
 pub returns-then-is_pointer : goal.returns-then-is_pointer
 returns-then-is_pointer c =
