@@ -1,91 +1,63 @@
 // Standard input: a buffer filled with whole records, the end of the input told from a read that fails.
-ghost use Rattle.std.specs.Prelude.{◌≤◌, length};
+ghost use Rattle.std.specs.Prelude.{◌≤◌, length, IfOk, IfSome};
 ghost use Rattle.collector.specs.Running.{FilledIs};
 
-use crate::failures;
+use crate::failures::{self, Failed};
 use records::Update;
 use std::io::Read;
 use std::rt::Clock;
 
-// What comes after the bytes that were read: other records; the rest of the last one, or nothing yet; the end of the input; nothing, since
-// a read failed.
+// What comes after the bytes that were read: other records, or the end of the input.
 #[derive(Clone, Copy)]
 pub enum After {
     Records,
-    Rest,
     End,
-    Failure,
 }
 
-// How many bytes the buffer holds, and what comes after them.
+// How many bytes the buffer holds, and what comes after them: nothing where a read failed.
 #[derive(Clone, Copy)]
 pub struct Filled {
     pub count: usize,
-    pub after: After,
+    pub after: Result<After, Failed>,
 }
 
-// One read, after the bytes that the buffer holds.
-fn read_more<R: Input + Eprint + Clock + AllocGlobal>(
-    rt: &R,
-    buffer: &mut [u8],
-    done: usize,
-) -> Filled
-    requires { done ≤ length buffer.old }
-    ensures { FilledIs (length buffer.old) result }
+// One read, and how many bytes it gave: 0 where it is to be made again. None at the end of the input.
+fn read_some<R: Input + Eprint + Clock>(rt: &R, room: &mut [u8]) -> Result<Option<usize>, Failed>
+    ensures { IfOk result (λ count. IfSome count (λ more. more ≤ length room.old)) }
 {
-    let more = match rt.reader().read(&mut buffer[done..]) {
-        Ok(more) => more,
+    match rt.reader().read(room) {
+        Ok(0) => Ok(None),
+        Ok(count) => Ok(Some(count)),
         Err(error) => {
-            if failures::failed(rt, "collector: standard input", error) {
-                return Filled {
-                    count: done,
-                    after: After::Failure,
-                };
-            }
-            return Filled {
-                count: done,
-                after: After::Rest,
-            };
+            failures::unless_passing(rt, "collector: standard input", error)?;
+            Ok(Some(0))
         }
-    };
-    if more == 0 {
-        return Filled {
-            count: done,
-            after: After::End,
-        };
-    }
-    let count = done + more;
-    if count % Update::SIZE != 0 {
-        return Filled {
-            count,
-            after: After::Rest,
-        };
-    }
-    Filled {
-        count,
-        after: After::Records,
     }
 }
 
 // Reads until the buffer holds whole records and no part of one, the input ends or a read fails. So a record that is there is taken
 // at once, and is not kept waiting until the buffer is full. A proved loop has to end, and nothing says that the input comes: the loop
-// counts its turns down from a number that no run uses up.
-pub fn fill<R: Input + Eprint + Clock + AllocGlobal>(rt: &R, buffer: &mut [u8]) -> Filled
+// counts its turns up to a number that no run reaches.
+pub fn fill<R: Input + Eprint + Clock>(rt: &R, buffer: &mut [u8]) -> Filled
     ensures { FilledIs (length buffer.old) result }
 {
-    let mut done = 0;
-    let mut turns = u64::MAX;
-    while turns > 0 {
-        let filled = read_more(rt, buffer, done);
-        let after = filled.after;
-        match after {
-            After::Rest => done = filled.count,
-            After::Records | After::End | After::Failure => return filled,
-        }
-        turns -= 1;
+    let mut count = 0;
+    for _ in 0..u64::MAX {
+        let after = match read_some(rt, &mut buffer[count..]) {
+            Ok(Some(more)) => {
+                count += more;
+                if more == 0 || count % Update::SIZE != 0 {
+                    continue;
+                }
+                Ok(After::Records)
+            }
+            Ok(None) => Ok(After::End),
+            Err(failed) => Err(failed),
+        };
+        return Filled { count, after };
     }
     Filled {
-        count: done,
-        after: After::Failure,
+        count,
+        after: Err(Failed),
     }
 }

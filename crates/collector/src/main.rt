@@ -7,6 +7,7 @@ mod input;
 mod output;
 mod run;
 
+use failures::Failed;
 use std::env::{Env, FillError};
 use std::process::ExitCode;
 use std::rt::Clock;
@@ -20,27 +21,17 @@ Exit status: 0 at the end of the input; 1 where a record was refused by reading;
 said on standard error, and there is no last line.
 ";
 
-// Runs the program, and answers its exit status: 0 at a clean end of the input, 1 where a record was refused, 2 where a read or a write
-// failed. It lends a cell for each of the 4,096 blocks, 16 segments, their owners, and 64 rules.
-pub fn collect<R: Input + Print + Eprint + Clock + AllocGlobal>(rt: &R) -> u8 {
+// Runs the program, and answers its exit status where no read and no write failed: 0 at a clean end of the input, 1 where a record was
+// refused. It lends a cell for each of the 4,096 blocks, 16 segments, their owners, and 64 rules.
+fn collect<R: Input + Print + Eprint + Clock>(rt: &R) -> Result<u8, Failed> {
     let mut first = [0u32; 4096];
     let mut long = [0u32; 4096];
     let mut owners = [0u32; 16];
     let mut rules = [0u64; 64];
-    if !output::print_header(rt) {
-        return 2;
-    }
-    let last = run::run(rt, &mut first, &mut long, &mut owners, &mut rules);
-    if last.failed {
-        return 2;
-    }
-    if !output::print_last(rt, last) {
-        return 2;
-    }
-    if last.code != 0 {
-        return 1;
-    }
-    0
+    output::print_header(rt)?;
+    let last = run::run(rt, &mut first, &mut long, &mut owners, &mut rules)?;
+    output::print_last(rt, last)?;
+    Ok(if last.code == 0 { 0 } else { 1 })
 }
 
 // What the command line asks for.
@@ -67,7 +58,7 @@ fn what_is_asked<R: Env>(rt: &R) -> Asked {
 
 fn main(rt: HostRuntime) -> ExitCode {
     let status = match what_is_asked(&rt) {
-        Asked::Run => collect(&rt),
+        Asked::Run => collect(&rt).unwrap_or(2),
         Asked::Help => match print!(rt; "{USAGE}") {
             Ok(()) => 0,
             Err(_) => 2,
