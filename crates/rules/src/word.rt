@@ -22,7 +22,9 @@ impl Rule {
         ensures { result ≡ word_of route }
     {
         let prefix = route.prefix;
-        prefix.address as u64 * Rule::ADDRESS + prefix.length as u64 * Rule::LENGTH + route.hop as u64
+        prefix.address as u64 * Rule::ADDRESS
+            + prefix.length as u64 * Rule::LENGTH
+            + route.hop as u64
     }
 
     pub fn address(word: u64) -> u32

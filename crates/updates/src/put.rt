@@ -9,8 +9,8 @@ ghost use Rattle.updates.specs.Effects.{painted, effect};
 ghost use Rattle.updates.specs.inner.Steps.{Paintable, Puttable};
 
 use cells::cell::Cell;
-use prefix::{Prefix, Route};
 use prefix::geometry::Blocks;
+use prefix::{Prefix, Route};
 use refusals::codes::Checked;
 use rules::list;
 use tables::{fill, paint};
