@@ -21,7 +21,6 @@ use Rattle.history.specs.History.{History, memory, live}
 use Rattle.history.proofs.Histories.{inv_history}
 use Rattle.stream.specs.Stream.{used}
 
-
 used-cons : (w : ℕ) (ws : List ℕ) → used (w ∷ ws) ≡ differs w 0 + used ws
 used-cons w ws = sum_front (length ws) (λ i. differs (get_or (w ∷ ws) i 0) 0)
 
