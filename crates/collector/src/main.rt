@@ -28,9 +28,9 @@ fn print_stream<R: Input + Print + Eprint + Clock>(rt: &R) -> Result<u32, Failed
     let mut long = [0u32; 4096];
     let mut owners = [0u32; 16];
     let mut rules = [0u64; 64];
-    output::print_header(rt)?;
+    output::print(rt, output::HEADER)?;
     let last = run::run(rt, &mut first, &mut long, &mut owners, &mut rules)?;
-    output::print_last(rt, last)?;
+    output::print(rt, last)?;
     Ok(last.code)
 }
 
