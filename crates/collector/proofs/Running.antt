@@ -1,31 +1,25 @@
 -- Pieces of the input, one after another, and the last line of a history. Assumes nothing.
-use Rattle.std.proofs.Common.{◌≡◌, refl, sym, ap, subst, ◌∙◌, ℕ, ◌%◌, ◌≤◌, arith}
-use Rattle.std.proofs.Common.{List, [], ◌++◌, length, length-append, Result, Ok, Err, IsErr}
+use Rattle.std.proofs.Common.{◌≡◌, refl, sym, ap, subst, ◌∙◌, ℕ, ◌≤◌, arith}
+use Rattle.std.proofs.Common.{[], ◌++◌, length-append, Result, Ok, Err, IsErr}
 use Rattle.ground.specs.declared.refusal.Refusal.{Refusal}
 use Rattle.ground.specs.Refusals.{code_of}
-use Rattle.prefix.specs.declared.Prefix.{Prefix}
 use Rattle.prefix.specs.Prefixes.{Contains}
 use Rattle.lookup.specs.Lookup.{look_up}
-use Rattle.records.specs.Record.{size}
 use Rattle.cells.specs.Memory.{Lent, IsLent}
 use Rattle.history.specs.History.{start, memory, live, IsAnswer}
 use Rattle.updates.specs.declared.Report.{Report}
 use Rattle.updates.specs.Calls.{clear, reported, Outcome}
 use Rattle.history.proofs.Demand2.{demand_2}
-use Rattle.stream.specs.declared.Line.{Line}
-use Rattle.stream.specs.declared.Taken.{Taken}
-use Rattle.stream.specs.Taking.{TakenIs}
-use Rattle.stream.specs.Stream.{Stream, Step, step_of, stream_of, number_of, lent_after, used}
+use Rattle.stream.specs.Stream.{Stream, stream_of, number_of, lent_after, used}
 use Rattle.stream.proofs.Streams.{stream_none, stream_joined, lent_after_joined, memory-goes_on}
 use Rattle.stream.proofs.Counting.{live_counted}
 use Rattle.collector.specs.declared.failures.Failed.{Failed}
 use Rattle.collector.specs.declared.input.After.{After}
-use Rattle.collector.specs.declared.input.After.TheVariants.{Records, End}
 use Rattle.collector.specs.declared.input.Filled.{Filled}
 use Rattle.collector.specs.declared.run.Next.{Next}
 use Rattle.collector.specs.declared.run.Next.TheVariants.{Expects as Goes, Ends}
 use Rattle.collector.specs.declared.output.Last.{Last}
-use Rattle.collector.specs.Running.{site, Whole, FilledIs, takes, count_of, next_of, ended_by, Agrees, Handed, history_of, LastIs}
+use Rattle.collector.specs.Running.{site, FilledIs, takes, count_of, ended_by, Agrees, Handed, history_of, LastIs}
 
 -- nothing handed over yet
 pub handed_none : (expected : ℕ) (m : Lent) → Handed expected m (Ok (Goes expected)) m
@@ -70,14 +64,6 @@ handed_failed (Err failed) e A B = let all = handed_more A B in record { bytes =
 
 -- ---- one buffer
 
--- what comes next agrees with where the stream of the taken bytes stands
-next_agrees : (step : Result ℕ Refusal) (after : Result After Failed) (count : ℕ) (bytes : List ℕ) → Whole count after → length bytes ≡ takes count after
-    → Agrees (next_of step after) (step_of step) bytes
-next_agrees (Err r) after count bytes w e = refl
-next_agrees (Ok serial) (Ok Records) count bytes w e = (refl, ap (λ (k : ℕ). k % size) e ∙ w)
-next_agrees (Ok serial) (Ok End) count bytes w e = refl
-next_agrees (Ok serial) (Err failed) count bytes w e = tt
-
 takes-within : (count : ℕ) (after : Result After Failed) → takes count after ≤ count
 takes-within count (Ok after) = omega arith
 takes-within count (Err failed) = omega arith
@@ -86,39 +72,17 @@ takes-within count (Err failed) = omega arith
 pub took_within : {room count : ℕ} {f : Filled} → FilledIs room f → count ≡ count_of f → count ≤ room
 took_within {f = f} F e = omega (arith, F.within, e, takes-within f.count f.after)
 
-module _ {t : Prefix} {bytes : List ℕ} {expected : ℕ} {m n : Lent} {lines ls : List Line} {r : Taken} (here : t ≡ site)
-    (T : TakenIs t bytes expected m lines r n ls) where
-  taken_here : n ≡ lent_after site m (stream_of bytes expected).updates
-  taken_here = T.lent ∙ ap (λ (p : Prefix). lent_after p m (stream_of bytes expected).updates) here
-
-  -- the records of a buffer were taken, and their lines could not be printed
-  pub handed_unsaid : {failed : Failed} → Handed expected m (Err failed) n
-  handed_unsaid = record { bytes = bytes; lent = taken_here; says = tt }
-
-  -- they were taken, and what comes next is as the input goes on
-  pub handed_next : {count : ℕ} {f : Filled} {x : Result Next Failed} {room : ℕ} → FilledIs room f → count ≡ count_of f → length bytes ≡ count
-      → x ≡ next_of r.step f.after → Handed expected m x n
-  handed_next {f = f} {x = x} F e long next = record {
-    bytes = bytes;
-    lent = taken_here;
-    says =
-        subst (λ (y : Result Next Failed). Agrees y (stream_of bytes expected).step bytes) (sym next)
-        (subst (λ (s : Step). Agrees (next_of r.step f.after) s bytes) T.stands (next_agrees r.step f.after f.count bytes F.whole (long ∙ e)));
-  }
-
 -- ---- the whole
 
--- what was handed over leads on from what clear left
-pub cleared_by : (m : Lent) {n k : Lent} {o : Report} {next : Result Next Failed} → reported o k ≡ clear site m → Handed 0 k next n
-    → Handed 0 (clear site m).lent next n
-cleared_by m {n} {next = next} e = subst (λ (x : Lent). Handed 0 x next n) (ap (λ (x : Outcome). x.lent) e)
-
-module _ (m : Lent) {n : Lent} (lent : IsLent site m) where
-  memory_is : {next : Result Next Failed} → (H : Handed 0 (clear site m).lent next n) → n ≡ memory site m (history_of H.bytes)
+-- clear, and then what was handed over
+module _ {m k n : Lent} {o : Report} (lent : IsLent site m) (cleared : reported o k ≡ clear site m) where
+  memory_is : {next : Result Next Failed} → (H : Handed 0 k next n) → n ≡ memory site m (history_of H.bytes)
   unfolding memory
-  memory_is H = H.lent ∙ sym (memory-goes_on site m start (stream_of H.bytes 0).updates)
+  memory_is H =
+      H.lent ∙ ap (λ (x : Outcome). lent_after site x.lent (stream_of H.bytes 0).updates) cleared
+      ∙ sym (memory-goes_on site m start (stream_of H.bytes 0).updates)
 
-  pub last_is : {end : Result (Unit {0}) Refusal} {code prefixes segments : ℕ} → Handed 0 (clear site m).lent (Ok (Ends end)) n
+  pub last_is : {end : Result (Unit {0}) Refusal} {code prefixes segments : ℕ} → Handed 0 k (Ok (Ends end)) n
       → code ≡ code_of end → prefixes ≡ used n.rules → segments ≡ used n.tables.owners
       → LastIs m (Ok (record { code = code; prefixes = prefixes; segments = segments })) n
   last_is H g e f = record {
@@ -130,7 +94,7 @@ module _ (m : Lent) {n : Lent} (lent : IsLent site m) where
   }
 
   -- a read or a write failed, and there is no last line
-  pub no_last : {failed : Failed} (r : Result Last Failed) → IsErr r → Handed 0 (clear site m).lent (Err failed) n → LastIs m r n
+  pub no_last : {failed : Failed} (r : Result Last Failed) → IsErr r → Handed 0 k (Err failed) n → LastIs m r n
   no_last (Ok last) e H = cc e
   no_last (Err failed) e H = record { bytes = H.bytes; lent = memory_is H; number = tt; prefixes = tt; segments = tt }
 

@@ -1,6 +1,7 @@
 -- What the program's loop and its last line come to. No contract of the kit says which bytes a read gives: so the contracts here are of some
 -- bytes, those that the reads handed over, in order. Assumes nothing.
-use Rattle.std.specs.Prelude.{◌≡◌, ℕ, ◌+◌, ◌-◌, ◌*◌, ◌%◌, ◌^◌, ◌≤◌, List, length, Result, Ok, Err, IfOk}
+use Rattle.std.specs.Prelude.{◌≡◌, ℕ, ◌+◌, ◌-◌, ◌*◌, ◌%◌, ◌^◌, ◌≤◌, List, ◌++◌, codes, length, Result, Ok, Err, IfOk}
+use Rattle.std.specs.Fmt.{decimal}
 use Rattle.ground.specs.declared.refusal.Refusal.{Refusal}
 use Rattle.ground.specs.Refusals.{code_of}
 use Rattle.prefix.specs.declared.Prefix.{Prefix}
@@ -72,6 +73,10 @@ pub record Handed (expected : ℕ) (m : Lent) (r : Result Next Failed) (n : Lent
 -- the history of the calls that a stream's records make
 abbrev pub history_of : List ℕ → History
 history_of bytes = goes_on start (stream_of bytes 0).updates
+
+-- the last line as text, with a newline
+abbrev pub text_of : Last → List ℕ
+text_of l = codes "end " ++ decimal l.code ++ codes " live " ++ decimal l.prefixes ++ codes " open " ++ decimal l.segments ++ codes "\n"
 
 -- some bytes, those that were handed over: the memory at exit is that of their history, and the last line has the number with which
 -- their stream ends, how many prefixes are live, and how many segments are open, that is have an owner word that is not 0

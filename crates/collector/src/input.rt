@@ -43,18 +43,23 @@ pub fn fill<R: Input + Eprint + Clock>(rt: &R, buffer: &mut [u8]) -> Filled
 {
     let mut count = 0;
     for _ in 0..u64::MAX {
-        let after = match read_some(rt, &mut buffer[count..]) {
-            Ok(Some(more)) => {
-                count += more;
-                if more == 0 || count % Update::SIZE != 0 {
-                    continue;
-                }
-                Ok(After::Records)
-            }
-            Ok(None) => Ok(After::End),
-            Err(failed) => Err(failed),
-        };
-        return Filled { count, after };
+        match read_some(rt, &mut buffer[count..]) {
+            Ok(Some(more)) => count += more,
+            Ok(None) => return Filled {
+                count,
+                after: Ok(After::End),
+            },
+            Err(failed) => return Filled {
+                count,
+                after: Err(failed),
+            },
+        }
+        if count > 0 && count % Update::SIZE == 0 {
+            return Filled {
+                count,
+                after: Ok(After::Records),
+            };
+        }
     }
     Filled {
         count,

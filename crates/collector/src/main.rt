@@ -21,17 +21,27 @@ Exit status: 0 at the end of the input; 1 where a record was refused by reading;
 said on standard error, and there is no last line.
 ";
 
-// Runs the program, and answers its exit status where no read and no write failed: 0 at a clean end of the input, 1 where a record was
-// refused. It lends a cell for each of the 4,096 blocks, 16 segments, their owners, and 64 rules.
-fn collect<R: Input + Print + Eprint + Clock>(rt: &R) -> Result<u8, Failed> {
+// Takes the stream and prints its lines, from the header to the last one, and answers the number of the last. It lends a cell for each of
+// the 4,096 blocks, 16 segments, their owners, and 64 rules.
+fn print_stream<R: Input + Print + Eprint + Clock>(rt: &R) -> Result<u32, Failed> {
     let mut first = [0u32; 4096];
     let mut long = [0u32; 4096];
     let mut owners = [0u32; 16];
     let mut rules = [0u64; 64];
-    output::print_header(rt)?;
+    output::print(rt, output::HEADER)?;
     let last = run::run(rt, &mut first, &mut long, &mut owners, &mut rules)?;
-    output::print_last(rt, last)?;
-    Ok(if last.code == 0 { 0 } else { 1 })
+    output::print(rt, last)?;
+    Ok(last.code)
+}
+
+// Runs the program, and answers its exit status: 0 at a clean end of the input, 1 where a record was refused, 2 where a read or a write
+// failed.
+pub fn collect<R: Input + Print + Eprint + Clock>(rt: &R) -> u8 {
+    match print_stream(rt) {
+        Ok(0) => 0,
+        Ok(_) => 1,
+        Err(Failed) => 2,
+    }
 }
 
 // What the command line asks for.
@@ -58,7 +68,7 @@ fn what_is_asked<R: Env>(rt: &R) -> Asked {
 
 fn main(rt: HostRuntime) -> ExitCode {
     let status = match what_is_asked(&rt) {
-        Asked::Run => collect(&rt).unwrap_or(2),
+        Asked::Run => collect(&rt),
         Asked::Help => match print!(rt; "{USAGE}") {
             Ok(()) => 0,
             Err(_) => 2,

@@ -1,6 +1,6 @@
-// Standard output: a header, a line for each record, and a last line. A line is put together first and then written; a write that fails is
-// said.
-ghost use Rattle.std.specs.Prelude.{◌≤◌, length, IfOk};
+// Standard output: a header, a line for each record, and a last line. A write that fails is said.
+ghost use Rattle.std.specs.Prelude.{◌≤◌, length, Some, IfOk};
+ghost use Rattle.collector.specs.Running.{text_of};
 
 use crate::failures::{self, Failed};
 use std::fmt;
@@ -8,6 +8,8 @@ use std::fmt::{Display, InlineText};
 use std::io::{ErrorKind, Write, writer};
 use std::rt::Clock;
 use stream::Line;
+
+pub const HEADER: &str = "serial code cells\n";
 
 // The numbers of the last line: the reading refusal that stopped the stream, 0 at a clean end; live prefixes; open segments.
 #[derive(Clone, Copy)]
@@ -18,6 +20,8 @@ pub struct Last {
 }
 
 impl Display for Last {
+    ghost output = { λ last. Some (text_of last) };
+
     fn fmt<W: fmt::Write>(&self, f: &mut fmt::Formatter<W>) -> fmt::Result {
         let code = self.code;
         let prefixes = self.prefixes;
@@ -52,14 +56,10 @@ fn write_all<R: Print + Eprint + Clock>(rt: &R, text: &[u8]) -> Result<(), Faile
     Err(Failed)
 }
 
-// The longest line is the last one, of 67 bytes.
-fn print<R: Print + Eprint + Clock, L: Display + Drop>(rt: &R, line: L) -> Result<(), Failed> {
+// Prints a line: it is put together first, and then written. The longest is the last one, of 67 bytes.
+pub fn print<R: Print + Eprint + Clock, L: Display + Drop>(rt: &R, line: L) -> Result<(), Failed> {
     let text = InlineText::<96>::of(line);
     write_all(rt, text.as_str().as_bytes())
-}
-
-pub fn print_header<R: Print + Eprint + Clock>(rt: &R) -> Result<(), Failed> {
-    print(rt, "serial code cells\n")
 }
 
 pub fn print_lines<R: Print + Eprint + Clock>(rt: &R, lines: &[Line]) -> Result<(), Failed> {
@@ -67,8 +67,4 @@ pub fn print_lines<R: Print + Eprint + Clock>(rt: &R, lines: &[Line]) -> Result<
         print(rt, *line)?;
     }
     Ok(())
-}
-
-pub fn print_last<R: Print + Eprint + Clock>(rt: &R, last: Last) -> Result<(), Failed> {
-    print(rt, last)
 }

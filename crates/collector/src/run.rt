@@ -65,11 +65,7 @@ fn take_next<R: Input + Print + Eprint + Clock>(
     ensures { Handed expected (lent_of first.old long.old owners.old rules.old) result (lent_of first.new long.new owners.new rules.new) }
 {
     let mut buffer = [0u8; RECORDS * Update::SIZE];
-    let mut lines = [Line {
-        serial: 0,
-        code: 0,
-        cells: 0,
-    }; RECORDS];
+    let mut lines = [Line::default(); RECORDS];
     let filled = input::fill(rt, &mut buffer);
     let taken = stream::take_records(
         first,

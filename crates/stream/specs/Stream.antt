@@ -1,7 +1,8 @@
 -- A stream of update records as a function of its bytes: which updates its records carry, in which order, each under its serial, until the
 -- bytes end or a record is refused. And what those updates leave in the lent memory, and the lines that are printed for them.
 -- Assumes nothing.
-use Rattle.std.specs.Prelude.{ℕ, zero, suc, ◌+◌, ◌/◌, cond, List, [], ◌∷◌, eqb, length, get_or, drop, Result, Ok, Err}
+use Rattle.std.specs.Prelude.{ℕ, zero, suc, ◌+◌, ◌/◌, cond, List, [], ◌∷◌, ◌++◌, codes, eqb, length, get_or, drop, Result, Ok, Err}
+use Rattle.std.specs.Fmt.{decimal}
 use Rattle.ground.specs.declared.refusal.Refusal.{Refusal}
 use Rattle.ground.specs.Refusals.{number}
 use Rattle.ground.specs.Sums.{sum}
@@ -84,6 +85,10 @@ lent_after t m (u ∷ us) = lent_after t (step t (call_of u) m).lent us
 -- the lines: for each update its serial, the number that the tables answered and the cells that it changed
 abbrev pub line_of : Update → Report → Line
 line_of u r = record { serial = u.serial; code = r.code; cells = r.cells }
+
+-- as text: the three numbers, with a blank between them, and a newline
+abbrev pub text_of : Line → List ℕ
+text_of l = decimal l.serial ++ codes " " ++ decimal l.code ++ codes " " ++ decimal l.cells ++ codes "\n"
 
 unfoldable pub lines_of : Prefix → Lent → List Update → List Line
 lines_of t m [] = []

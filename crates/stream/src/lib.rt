@@ -2,10 +2,10 @@
 // line to be printed for it is left. No input and no output happens here, so all of it is exact.
 #![tactic(auto)]
 
-ghost use Rattle.std.specs.Prelude.{◌≡◌, ◌≤◌, length};
+ghost use Rattle.std.specs.Prelude.{◌≡◌, ◌≤◌, length, Some};
 ghost use Rattle.cells.specs.Memory.{lent_of};
 ghost use Rattle.updates.specs.Calls.{reported, report_of, step};
-ghost use Rattle.stream.specs.Stream.{call_of, records_in};
+ghost use Rattle.stream.specs.Stream.{call_of, text_of, records_in};
 ghost use Rattle.stream.specs.Taking.{TurnIs, TakenIs};
 
 pub mod counts;
@@ -25,6 +25,8 @@ pub struct Line {
 }
 
 impl fmt::Display for Line {
+    ghost output = { λ line. Some (text_of line) };
+
     fn fmt<W: fmt::Write>(&self, f: &mut fmt::Formatter<W>) -> fmt::Result {
         let serial = self.serial;
         let code = self.code;

@@ -1,5 +1,5 @@
 -- The goals that the check leaves.
-use Rattle.std.proofs.Common.{refl, ap, ◌∙◌, rules}
+use Rattle.std.proofs.Common.{refl, ap, ◌∙◌, arith, rules}
 use Rattle.stream.proofs.Taking.{Cut, cut_by, going_start, going_done, going_refused, going_room, going_more}
 use Rattle.stream.proofs.take_records.Goals.{In-Some}
 use Rattle.stream.proofs.take_records.Goals as goal
@@ -25,7 +25,8 @@ loop-record-preserved c = (
   search rules,
   search rules,
   search rules,
-  going_more _ _ _ _ _ c.loop-record.invariant.6 (cut (goal.at.loop-record-preserved c).In-Some) c.in-Ok.ensures c.next_serial-next.ensures,
+  going_more _ _ _ _ _ c.loop-record.invariant.6 (cut (goal.at.loop-record-preserved c).In-Some) c.in-Ok.ensures
+      (omega (arith, c.next_serial-next.ensures)),
 )
 
 pub returns-in-Err : goal.returns-in-Err
