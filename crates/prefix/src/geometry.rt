@@ -47,7 +47,7 @@ pub fn block_of(territory: Prefix, address: u32) -> usize
 pub fn block_from(base: u32, address: u32) -> u32
     ensures { result ≡ block_from base address }
 {
-    std::num::wrapping_sub_u32(address, base) / Block::SIZE
+    address.wrapping_sub(base) / Block::SIZE
 }
 
 // The first address of a block.
