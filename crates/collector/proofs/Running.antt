@@ -56,7 +56,7 @@ pub handed_as : {expected serial : ℕ} {m n k : Lent} {next next' : Next} → H
     → Handed expected m (Ok next') k
 handed_as {expected} {m = m} {k = k} A B e = subst (λ (x : Next). Handed expected m (Ok x) k) e (handed_more A B)
 
--- where the turns are used up, or something failed, no number is said
+-- where a read or a write failed, no number is said
 pub handed_failed : {expected serial : ℕ} {m n k : Lent} {failed : Failed} (r : Result (Result (Unit {0}) Refusal) Failed) → IsErr r
     → Handed expected m (Ok (Goes serial)) n → Handed serial n (Err failed) k → Handed expected m (ended_by r) k
 handed_failed (Ok end) e A B = cc e

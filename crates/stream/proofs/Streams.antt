@@ -1,6 +1,5 @@
 -- The stream of some bytes, record by record; of bytes that come in pieces; and the memory of a history. Assumes nothing.
 use mathlib.Core.Path.{◌≡◌, refl, sym, ap, ◌∙◌}
-use mathlib.Core.Bool.{Bool, true, false, false≢true}
 use mathlib.Core.List.{List, [], ◌∷◌, ◌++◌}
 use Prim.Native.Nat.{ℕ, zero, suc, ◌-◌, ◌*◌, ◌/◌, ◌%◌, ◌≤◌, ◌<◌}
 use native.Mathlib.Omega.{arith}
@@ -16,7 +15,7 @@ use Rattle.records.proofs.RoundTrip.{read_alike}
 use Rattle.cells.specs.Memory.{Lent}
 use Rattle.history.specs.History.{History, ◌then◌, memory}
 use Rattle.updates.specs.Calls.{step}
-use Rattle.stream.specs.Stream.{Step, Expects, Refused}
+use Rattle.stream.specs.Stream.{Expects, Refused}
 use Rattle.stream.specs.Stream.{Stream, refused_at, first_then, of_records, records_in, stream_of, call_of, goes_on, lent_after}
 
 -- ---- record by record
@@ -77,15 +76,6 @@ stream_few bytes expected = of_few (records_in bytes) bytes expected
 
 -- ---- bytes that come in pieces
 
--- the serial that is expected, and whether one is
-abbrev serial_of : Step → ℕ
-serial_of (Expects serial) = serial
-serial_of (Refused number) = 0
-
-abbrev is_expected : Step → Bool
-is_expected (Expects serial) = true
-is_expected (Refused number) = false
-
 -- two streams, one after the other
 abbrev joined : Stream → Stream → Stream
 joined s r = record { updates = s.updates ++ r.updates; step = r.step }
@@ -95,7 +85,8 @@ joined_at : (k : ℕ) (xs ys : List ℕ) (expected serial : ℕ) → length xs �
     → stream_of (xs ++ ys) expected ≡ joined (stream_of xs expected) (stream_of ys serial)
 joined_at zero [] ys expected serial long goes =
     let none = stream_none [] expected refl in
-    let same : expected ≡ serial = ap serial_of (sym (ap (λ (s : Stream). s.step) none) ∙ goes) in
+    let here : Expects expected ≡ Expects serial = sym (ap (λ (s : Stream). s.step) none) ∙ goes in
+    let same : expected ≡ serial = cc here in
     ap (stream_of ys) same ∙ ap (λ (s : Stream). joined s (stream_of ys serial)) (sym none)
 joined_at zero (x ∷ xs) ys expected serial long goes = absurd (omega arith)
 joined_at (suc k) xs ys expected serial long goes =
@@ -114,7 +105,9 @@ joined_at (suc k) xs ys expected serial long goes =
     ∙ ap (first_then u) others
     ∙ ap (λ (s : Stream). joined s (stream_of ys serial)) (sym first))
     (λ z.
-    absurd (false≢true (ap (λ (s : Stream). is_expected s.step) (sym (stream_refused xs expected (omega arith) z)) ∙ ap is_expected goes)))
+    let refused : Refused (read_as xs expected).code ≡ Expects serial =
+    sym (ap (λ (s : Stream). s.step) (stream_refused xs expected (omega arith) z)) ∙ goes in
+    cc refused)
 
 pub stream_joined : (xs ys : List ℕ) (expected serial : ℕ) → length xs % size ≡ 0 → (stream_of xs expected).step ≡ Expects serial
     → stream_of (xs ++ ys) expected ≡ record { updates = (stream_of xs expected).updates ++ (stream_of ys serial).updates; step = (stream_of ys serial).step }
