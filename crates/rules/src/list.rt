@@ -66,9 +66,7 @@ fn insert_at(rules: &mut [u64], used: usize, at: usize, word: u64)
     requires { (at ≤ used) × (used < length rules.old) }
     ensures { rules.new ≡ inserted_at rules.old used at word }
 {
-    for i in (at..used).rev() {
-        rules[i + 1] = rules[i];
-    }
+    rules.copy_within(at..used, at + 1);
     rules[at] = word;
 }
 
@@ -77,9 +75,7 @@ fn remove_at(rules: &mut [u64], used: usize, at: usize)
     requires { (at < used) × (used ≤ length rules.old) }
     ensures { rules.new ≡ removed_at rules.old used at }
 {
-    for i in at..used - 1 {
-        rules[i] = rules[i + 1];
-    }
+    rules.copy_within(at + 1..used, at);
     rules[used - 1] = 0;
 }
 
