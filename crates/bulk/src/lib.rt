@@ -60,7 +60,8 @@ fn judged(base: u32, blocks: u32, address: u32, word: u32) -> u32
     }
 }
 
-// A pass: each answer becomes what the step makes of the address at its place and of itself.
+// A pass: each answer becomes what the step makes of the address at its place and of itself. By index, since after a `zip` with `iter_mut` nothing
+// is known of what was written.
 fn pass<F: Fn(u32, u32) -> u32>(addresses: &[u32], answers: &mut [u32], step: F)
     requires sizes { length answers.old ≡ length addresses.now }
     requires can { (i : ℕ) → i < length answers.old → F.pre step (get_or addresses.now i 0) (get_or answers.old i 0) }

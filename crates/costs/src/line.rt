@@ -7,6 +7,7 @@ use ground::refusal::Refusal;
 use octets::words::Words;
 use prefix::LAST_HOP;
 
+// The paper names its three cases, so that it is no Result of an Option.
 #[derive(Clone, Copy)]
 pub enum Line {
     // Cents for an octet.
@@ -15,7 +16,7 @@ pub enum Line {
     Refused(Refusal),
 }
 
-// A line in numbers, as C gets it: traffic is 1 where the rate holds; 0 with code 0 is "no traffic".
+// A line in numbers, as C gets it, which has no enum with values: traffic is 1 where the rate holds; 0 with code 0 is "no traffic".
 #[repr(C)]
 #[derive(Clone, Copy)]
 pub struct Values {

@@ -1,5 +1,5 @@
 -- A number of refusal tells which it is, is not 0, and is small. Assumes nothing.
-use Rattle.std.proofs.Common.{◌≡◌, ℕ, ◌^◌, ◌<◌, false, cond, eqb, Result, Ok, Err, refl, sym, ap, ◌∙◌, lit<}
+use Rattle.std.proofs.Common.{◌≡◌, ℕ, false, cond, eqb, Result, Ok, Err, refl, sym, ap, ◌∙◌}
 use Rattle.ground.specs.declared.refusal.Refusal.{Refusal}
 use Rattle.ground.specs.declared.refusal.Refusal.TheVariants.{WrongSizes, WrongNumbers, Outside, Damage, NotLive, NoRuleWord, NoSegment, NoRoute}
 use Rattle.ground.specs.declared.refusal.Refusal.TheVariants.{CutRecord, WrongLengthField, WrongVersion, WrongKind, WrongSerial, WithdrawWithHop, NoRecordRoom}
@@ -68,25 +68,6 @@ number_some WithdrawWithHop = refl
 number_some NoRecordRoom = refl
 number_some TooManyOctets = refl
 number_some TooManyCents = refl
-
-pub number_small : (r : Refusal) → number r < 2 ^ 6
-number_small WrongSizes = lit< tt
-number_small WrongNumbers = lit< tt
-number_small Outside = lit< tt
-number_small Damage = lit< tt
-number_small NotLive = lit< tt
-number_small NoRuleWord = lit< tt
-number_small NoSegment = lit< tt
-number_small NoRoute = lit< tt
-number_small CutRecord = lit< tt
-number_small WrongLengthField = lit< tt
-number_small WrongVersion = lit< tt
-number_small WrongKind = lit< tt
-number_small WrongSerial = lit< tt
-number_small WithdrawWithHop = lit< tt
-number_small NoRecordRoom = lit< tt
-number_small TooManyOctets = lit< tt
-number_small TooManyCents = lit< tt
 
 -- a call that answers nothing else: its number tells its outcome
 pub code_tells : (x y : Result (Unit {0}) Refusal) → code_of x ≡ code_of y → x ≡ y

@@ -30,7 +30,7 @@ pub fn clear_octets(octets: &mut [u64]) -> Result<(), Refusal>
 }
 
 // Whether look up's number refuses a record: any refusal does but "no route". Both are asked and neither is jumped to, since no processor
-// foresees whether the next address has a route.
+// foresees whether the next address has a route: by a match of the Result `book_all` took up to twice its time.
 #[tactic(auto, unfolding(crate::specs::Booking::refusal_of))]
 fn refuses(number: u32) -> bool
     ensures { result ≡ not (eqb (refusal_of (unpacked_of number).code) 0) }
@@ -78,7 +78,8 @@ pub fn book(
     enter(octets, answer(first, long, territory, address), amount)
 }
 
-// Books by look up's answers, which the room holds as numbers, and leaves there the number of each record.
+// Books by look up's answers, which the room holds as numbers, and leaves there the number of each record. By index, since after a `zip` with
+// `iter_mut` nothing is known of what was written.
 fn enter_all(octets: &mut [u64], amounts: &[u64], codes: &mut [u32])
     requires sizes { (length octets.old ≡ word_count) × (length amounts.now ≡ length codes.old) }
     requires numbers { AreNumbers codes.old }

@@ -19,7 +19,8 @@ impl Block {
     pub const CELLS: usize = 256;
 }
 
-// Blocks of a territory: `count` of them, from the number `from` on.
+// Blocks of a territory: `count` of them, from the number `from` on. No Range, since `touched`, by which the price of an update is told, names
+// the count.
 #[derive(Clone, Copy)]
 pub struct Blocks {
     pub from: usize,

@@ -1,5 +1,5 @@
 // The C library: each call under its C name, as thin as can be, with the contract of the call that it passes on. include/rakmolthi.h is
-// its manual.
+// its manual. The heads have the parameters that C passes; what they are in the library is built in each body.
 #![tactic(auto)]
 
 ghost use Rattle.std.specs.Prelude.{◌≡◌};

@@ -1,4 +1,4 @@
-// When an update is refused: the number that each update answers.
+// When an update is refused, and what its tests found where none refuses.
 #![tactic(auto)]
 
 pub mod codes;

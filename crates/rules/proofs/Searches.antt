@@ -24,14 +24,6 @@ use Rattle.rules.proofs.Indices.{routes_index, index_routes, listed_within, list
 
 -- ---- low and high bracket the answer
 
-pub bracket_start : (ws : List ℕ) (n k : ℕ) → Bracket ws n k 0 n
-bracket_start ws n k = record {
-  low_le = omega arith;
-  high_le = omega arith;
-  below = λ i l. absurd (omega arith);
-  above = λ i l m. absurd (omega arith);
-}
-
 module _ {ws : List ℕ} {n k low high : ℕ} (s : Listed ws n) (b : Bracket ws n k low high) (m : ℕ) (lm : low ≤ m) (mh : m < high) where
   pub bracket_up : key_at ws m < k → Bracket ws n k (m + 1) high
   bracket_up h = record {
@@ -49,13 +41,6 @@ module _ {ws : List ℕ} {n k low high : ℕ} (s : Listed ws n) (b : Bracket ws 
     above = λ i l il.
         by_lt m i (λ mi. omega (arith, listed_order s m i mi il)) (λ im. subst (λ (x : ℕ). k ≤ key_at ws x) (omega arith) h);
   }
-
-pub bracket_met : {ws : List ℕ} {n k low high : ℕ} → Bracket ws n k low high → high ≤ low → PositionIs ws n k low
-bracket_met b h = record {
-  within = omega arith;
-  below = b.below;
-  above = λ i l m. b.above i (omega arith) m;
-}
 
 -- ---- what the position of a prefix says
 

@@ -10,7 +10,8 @@ use crate::word::Rule;
 use prefix::Prefix;
 use prefix::geometry::Block;
 
-// A place among the live words, and whether a rule longer than a block was passed on the way to it.
+// A place among the live words, and whether a rule longer than a block was passed on the way to it. Both always hold: neither says whether the
+// other is meant, so that an Option would say less.
 #[derive(Clone, Copy)]
 pub struct Cursor {
     pub at: usize,
@@ -33,6 +34,7 @@ impl<'a> Live<'a> {
     {
         let words = self.words;
         let mut opened = false;
+        // By index, since it is the answer.
         for i in at..words.len() {
             let word = words[i];
             if start + Block::SPAN <= Rule::address(word) as u64 {

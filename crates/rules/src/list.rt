@@ -1,4 +1,6 @@
 // The live words as an ordered list: a prefix found, put in and taken out.
+//
+// What is written takes all lent words and how many are live: the word after the live ones is written too, and lies outside a slice of them.
 ghost use Rattle.std.specs.Prelude.{◌≡◌, true, false, ◌≤◌, ◌<◌, length, is_ok};
 ghost use Rattle.prefix.specs.Prefixes.{WellFormed};
 ghost use Rattle.prefix.specs.Routes.{IsRoute, with_route, without};

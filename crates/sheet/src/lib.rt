@@ -14,11 +14,11 @@ use ground::refusal::Refusal;
 use octets::words::Words;
 use prefix::LAST_HOP;
 
-// Whether no word from an index on has passed 2^53.
-fn within(words: &[u64], from: usize) -> bool
-    ensures { result ≡ within (drop from words.now) }
+// Whether no word has passed 2^53.
+fn within(words: &[u64]) -> bool
+    ensures { result ≡ within words.now }
 {
-    words.iter().skip(from).all(|word| *word <= Words::MOST)
+    words.iter().all(|word| *word <= Words::MOST)
 }
 
 // hops[i] = i + 1
@@ -40,11 +40,11 @@ pub fn cost_sheet(octets: &[u64], cents: &[u64], hops: &mut [u32]) -> Result<(),
     if octets.len() != Words::COUNT || cents.len() != Words::COUNT || hops.len() != Words::HOPS {
         return Err(Refusal::WrongSizes);
     }
-    if !within(octets, 0) {
+    if !within(octets) {
         return Err(Refusal::TooManyOctets);
     }
     // Word 0 of the cents is no hop's, and is not read.
-    if !within(cents, 1) {
+    if !within(&cents[1..]) {
         return Err(Refusal::TooManyCents);
     }
     let ledger = Ledger { octets, cents };

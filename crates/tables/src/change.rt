@@ -5,7 +5,7 @@ ghost use Rattle.tables.specs.inner.Ranges.{Within, RunChanged};
 
 use std::ops::Range;
 
-// 1 where the two cells differ, else 0.
+// 1 where the two cells differ, else 0: the conversion, with the name by which contracts call it.
 #[tactic(auto, unfolding(ground::specs::Lists::differs))]
 pub fn differ(a: u32, b: u32) -> u32
     ensures { result ≡ differs a b }

@@ -2,7 +2,8 @@
 // `unpaint`.
 //
 // What a caller's tests have found is handed in: the block, or the blocks, and the segment. The owner words, the territory and the prefix
-// are handed down also where only a contract speaks of them: the language has no parameter that is there for a contract alone.
+// are handed down also where only a contract speaks of them: the language has no parameter that is there for a contract alone. A prefix that
+// lies in the territory, and its blocks, stay parameters of their own: each of the few contracts that say so is about other values besides.
 #![tactic(auto)]
 
 pub mod change;

@@ -1,5 +1,9 @@
 // The calls that write: clear, announce, withdraw and re-home, for any numbers and any lent memory. Each tests first, in the paper's order,
 // and writes only when nothing refuses.
+//
+// The memory comes as four slices, as C lends it: a struct of `&mut` slices cannot be lent on twice, since of what lies behind a `&mut` of it the
+// lengths are not known afterwards. Announce and re-home differ in their test alone: a function that took it as a closure would say the four
+// slices and the promise of both once more, for the four lines that it shares.
 #![tactic(auto)]
 
 ghost use Rattle.std.specs.Prelude.{◌≡◌};
