@@ -82,9 +82,9 @@ module _ {m k n : Lent} {o : Report} (lent : IsLent site m) (cleared : reported 
       H.lent ∙ ap (λ (x : Outcome). lent_after site x.lent (stream_of H.bytes 0).updates) cleared
       ∙ sym (memory-goes_on site m start (stream_of H.bytes 0).updates)
 
-  pub last_is : {end : Result (Unit {0}) Refusal} {code prefixes segments : ℕ} → Handed 0 k (Ok (Ends end)) n
-      → code ≡ code_of end → prefixes ≡ used n.rules → segments ≡ used n.tables.owners
-      → LastIs m (Ok (record { code = code; prefixes = prefixes; segments = segments })) n
+  pub last_is : {end : Result (Unit {0}) Refusal} {last : Last} → Handed 0 k (Ok (Ends end)) n
+      → last.code ≡ code_of end → last.prefixes ≡ used n.rules → last.segments ≡ used n.tables.owners
+      → LastIs m (Ok last) n
   last_is H g e f = record {
     bytes = H.bytes;
     lent = memory_is H;
