@@ -7,14 +7,15 @@ use records::Update;
 use std::io::Read;
 use std::rt::Clock;
 
-// What comes after the bytes that were read: other records, or the end of the input.
+// What comes after the bytes that were read: other records, or the end of the input. Neither is a failure.
 #[derive(Clone, Copy)]
 pub enum After {
     Records,
     End,
 }
 
-// How many bytes the buffer holds, and what comes after them: nothing where a read failed.
+// How many bytes the buffer holds, and what comes after them: nothing where a read failed. It is a count and no slice: how much of it is taken
+// is told next, of both.
 #[derive(Clone, Copy)]
 pub struct Filled {
     pub count: usize,

@@ -44,7 +44,7 @@ pub fn collect<R: Input + Print + Eprint + Clock>(rt: &R) -> u8 {
     }
 }
 
-// What the command line asks for.
+// What the command line asks for: three cases, of which none is the lack of another.
 enum Asked {
     Run,
     Help,

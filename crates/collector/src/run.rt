@@ -7,8 +7,7 @@ use crate::failures::Failed;
 use crate::input::{After, Filled};
 use crate::output::Last;
 use crate::{input, output};
-use ground::refusal;
-use ground::refusal::Refusal;
+use ground::refusal::{self, Refusal};
 use prefix::Prefix;
 use records::Update;
 use std::rt::Clock;
@@ -23,7 +22,8 @@ const TERRITORY: Prefix = Prefix {
 // A buffer has room for so many records.
 const RECORDS: usize = 64;
 
-// What comes next: a record of this serial is expected, or the stream ended, cleanly or with a record that reading refused.
+// What comes next: a record of this serial is expected, or the stream ended, cleanly or with a record that reading refused. An end is no failure
+// of the program: that is the `Err` of the Result that this is in.
 #[derive(Clone, Copy)]
 enum Next {
     Expects(u32),

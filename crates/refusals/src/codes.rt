@@ -61,7 +61,7 @@ fn damage_tests(lent: Lent, territory: Prefix, prefix: Prefix) -> Result<Checked
 }
 
 // Refusals 1 to 4, where `lets` says whether refusal 2 lets the numbers pass. It is asked between refusal 1 and 3, by a test that differs from
-// call to call and costs nothing: its answer is handed in, with no value beside it.
+// call to call: its answer is handed in, and no value is beside it.
 fn tests(lent: Lent, territory: Prefix, prefix: Prefix, lets: bool) -> Result<Checked, Refusal>
     requires { lets ≡ true → WellFormed prefix }
     ensures { TestsTell territory prefix lets (held lent.entry) result }

@@ -36,14 +36,14 @@ impl fmt::Display for Line {
 }
 
 // What some bytes of a stream came to: where it stands, that is the serial that it expects next or why reading refused a record, which
-// ends it; and how many records were taken.
+// ends it; and how many records were taken, which both have: a refused record leaves the lines before it.
 #[derive(Clone, Copy)]
 pub struct Taken {
     pub step: Result<u32, Refusal>,
     pub count: usize,
 }
 
-// Takes an update into the tables, by its kind: reading lets only the three kinds pass.
+// Takes an update into the tables, by its kind. Reading lets only the three kinds pass; what any other would be, `call_of` says.
 fn take_update(
     first: &mut [u32],
     long: &mut [u32],

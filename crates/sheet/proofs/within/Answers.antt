@@ -1,8 +1,7 @@
 -- `within` meets its contract. Assumes nothing.
-use Rattle.std.proofs.Common.{rules, leb, drop, sym, ◌∙◌}
+use Rattle.std.proofs.Common.{rules, leb, sym, ◌∙◌}
 use borrow.Author.Tests.{tests}
 use Rattle.std.proofs.lemmas.Iterator.{YieldsList-from_slice}
-use Rattle.std.proofs.lemmas.Iterator.Adapters.{YieldsList-from_skip}
 use Rattle.std.proofs.lemmas.Iterator.Search.{all_from_yields_List}
 use Rattle.octets.specs.Words.{most}
 use Rattle.sheet.proofs.Refusing.{within_all}
@@ -11,5 +10,5 @@ use Rattle.sheet.proofs.within.Goals as goal
 pub returns : goal.returns
 returns c =
     let s = c.args in
-    all_from_yields_List (λ w. leb w most) _ _ _ c.all.ensures.ran (YieldsList-from_skip s.from (YieldsList-from_slice s.words.now cc) cc) (λ x b q k. search (rules, tests))
-    ∙ sym (within_all (drop s.from s.words.now))
+    all_from_yields_List (λ w. leb w most) _ _ _ c.all.ensures.ran (YieldsList-from_slice s.words.now cc) (λ x b q k. search (rules, tests))
+    ∙ sym (within_all s.words.now)
