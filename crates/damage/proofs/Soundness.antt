@@ -1,6 +1,6 @@
 -- Sound segments and blocks, as the statements that the tests of damage decide: what the crates above know of memory that refusal 4 let
 -- pass. Assumes nothing.
-use mathlib.Core.Path.{◌≡◌, refl, subst}
+use mathlib.Core.Path.{◌≡◌, refl, sym, ap, subst, ◌∙◌}
 use mathlib.Core.Logic.{◌⊎◌, inl, inr}
 use mathlib.Core.Bool.{Bool, true, false, cond, not, ◌&&◌, true≢false, false≢true}
 use mathlib.Core.List.{List}
@@ -8,7 +8,8 @@ use Prim.Native.Nat.{ℕ, ◌+◌, ◌-◌, ◌*◌, ◌≤◌, ◌<◌}
 use native.Mathlib.Nat.{lt_of_not-le}
 use native.Mathlib.Numerals.{add-one}
 use native.Mathlib.Omega.{arith}
-use lib.ListN.{length, get_or}
+use lib.ListN.{length, get_or, take, drop, length-drop}
+use lib.Seq.{length-take-le, get_or-take, get_or-drop}
 use Rattle.ground.specs.Lists.{every_below}
 use Rattle.ground.proofs.Tests.{Decides, holds, fails, leb?, ltb?, eqb?, and?, or?, iff?}
 use Rattle.ground.proofs.Lists.{every_below?}
@@ -46,6 +47,27 @@ CleanRun longest cells from count = (i : ℕ) → i < count → Clean longest (g
 pub clean_run? : (longest : ℕ) (cells : List ℕ) (from count : ℕ) → Decides (CleanRun longest cells from count) (clean_run longest cells from count)
 unfolding clean_run
 clean_run? longest cells from count = every_below? count _ (λ i. is_clean? longest (get_or cells (from + i) 0))
+
+-- a run, as the test of each of the cells of a part
+module _ (longest : ℕ) (cells : List ℕ) (from count : ℕ) {end : ℕ} (e : end ≡ from + count) (h : end ≤ length cells) where
+  abbrev part : List ℕ
+  part = take (end - from) (drop from cells)
+
+  part_length : length part ≡ count
+  part_length =
+      let n : end - from ≡ count = omega arith in
+      length-take-le (end - from) (drop from cells) (omega (arith, length-drop from cells)) ∙ n
+
+  part_cell : (i : ℕ) → i < count → get_or part (0 + i) 0 ≡ get_or cells (from + i) 0
+  part_cell i l =
+      let same : 0 + i ≡ i = omega arith in
+      ap (λ (j : ℕ). get_or part j 0) same ∙ get_or-take (end - from) (drop from cells) i 0 (omega arith) ∙ get_or-drop from cells i 0
+
+  pub clean_part? : Decides (CleanRun longest cells from count) (clean_run longest part 0 (length part))
+  clean_part? =
+      iff? (clean_run? longest part 0 (length part))
+      (λ run i l. subst (Clean longest) (part_cell i l) (run i (omega (arith, part_length))))
+      (λ run i l. let small : i < count = omega (arith, part_length) in subst (Clean longest) (sym (part_cell i small)) (run i small))
 
 -- one cell more
 pub clean_more : (longest : ℕ) (cells : List ℕ) (from i : ℕ)

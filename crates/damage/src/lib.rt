@@ -24,14 +24,13 @@ fn is_clean(cell: u32, longest: u32) -> bool
     Cell::is_direct(cell, longest)
 }
 
-// Whether each of `count` cells is, from `from` on. An update over many blocks spends its time here, so there is no early way out: the
-// loop has no jump on what was loaded, and several cells are tested at once.
-fn clean_run(cells: &[u32], longest: u32, from: usize, count: usize) -> bool
-    requires { from + count ≤ length cells.now }
-    ensures { result ≡ clean_run longest cells.now from count }
+// Whether each of the cells is. An update over many blocks spends its time here, so there is no early way out: the loop has no jump on
+// what was loaded, and several cells are tested at once.
+fn all_clean(cells: &[u32], longest: u32) -> bool
+    ensures { result ≡ clean_run longest cells.now 0 (length cells.now) }
 {
     let mut clean = true;
-    for cell in &cells[from..from + count] {
+    for cell in cells {
         clean = clean & is_clean(*cell, longest);
     }
     clean
@@ -48,10 +47,12 @@ fn segment_sound(lent: Lent, block: usize, segment: usize) -> bool
     if lent.owners[segment] as usize != block + 1 {
         return false;
     }
-    clean_run(lent.long, 32, segment * Block::CELLS, Block::CELLS)
+    let from = segment * Block::CELLS;
+    all_clean(&lent.long[from..from + Block::CELLS], 32)
 }
 
-// Whether the block is sound, where `opened` says that a live prefix longer than 24 lies in it.
+// Whether the block is sound, where `opened` says that a live prefix longer than 24 lies in it: an answer that is handed on, with no value
+// beside it.
 fn block_sound(lent: Lent, block: usize, opened: bool) -> bool
     requires { (length lent.long.now ≡ block_size * length lent.owners.now) × (block < 2 ^ width) × (block < length lent.first.now) }
     ensures { result ≡ sound_by (held lent.entry).tables block opened }
@@ -78,13 +79,14 @@ fn walk(lent: Lent, live: Live, territory: Prefix, blocks: Blocks, at: usize) ->
     let end = blocks.from + blocks.count;
     let mut block = blocks.from;
     let mut here = at;
+    // A turn goes on by as many blocks as it found closed, and by one.
     while block < end {
         let start = block_start(territory, block);
         let closed = live.stretch(here, start as u64, end - block);
-        if !clean_run(lent.first, Block::WIDTH, block, closed) {
+        let stop = block + closed;
+        if !all_clean(&lent.first[block..stop], Block::WIDTH) {
             return false;
         }
-        let stop = block + closed;
         if stop == end {
             return true;
         }

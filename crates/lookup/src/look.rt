@@ -77,6 +77,13 @@ impl Packed {
         number / Packed::CODE
     }
 
+    // The length in a number; that of a refusal is 0.
+    pub fn length(number: u32) -> u32
+        ensures { result ≡ (unpacked_of number).length }
+    {
+        number / Packed::LENGTH % Packed::LENGTHS
+    }
+
     // The hop in a number; that of a refusal is 0.
     pub fn hop(number: u32) -> u32
         ensures { result ≡ (unpacked_of number).hop }
@@ -91,7 +98,7 @@ impl Packed {
     {
         match Packed::code(number) {
             0 => Ok(Won {
-                length: number / Packed::LENGTH % Packed::LENGTHS,
+                length: Packed::length(number),
                 hop: Packed::hop(number),
             }),
             1 => Err(Refusal::WrongSizes),

@@ -82,31 +82,35 @@ fn has_stray_hop(kind: Kind, hop: u16) -> bool
 }
 
 // The fields of a record, whatever its length field and its version say.
-fn update_of(bytes: &[u8; Update::SIZE]) -> Update
-    ensures { result ≡ fields bytes.now }
-{
-    Update {
-        kind: bytes[3],
-        serial: u32::from_be_bytes([bytes[4], bytes[5], bytes[6], bytes[7]]),
-        address: u32::from_be_bytes([bytes[8], bytes[9], bytes[10], bytes[11]]),
-        length: bytes[12],
-        hop: u16::from_be_bytes([bytes[13], bytes[14]]),
+impl From<&[u8; Update::SIZE]> for Update {
+    ghost from_gives = { λ bytes update. update ≡ fields bytes.now };
+
+    fn from(bytes: &[u8; Update::SIZE]) -> Update {
+        Update {
+            kind: bytes[3],
+            serial: u32::from_be_bytes([bytes[4], bytes[5], bytes[6], bytes[7]]),
+            address: u32::from_be_bytes([bytes[8], bytes[9], bytes[10], bytes[11]]),
+            length: bytes[12],
+            hop: u16::from_be_bytes([bytes[13], bytes[14]]),
+        }
     }
 }
 
 // The record of an update.
-fn bytes_of(update: Update) -> [u8; Update::SIZE]
-    ensures { result ≡ encoded update }
-{
-    let mut bytes = [0; Update::SIZE];
-    bytes[..2].copy_from_slice(&Update::LENGTH_FIELD.to_be_bytes());
-    bytes[2] = Update::VERSION;
-    bytes[3] = update.kind;
-    bytes[4..8].copy_from_slice(&update.serial.to_be_bytes());
-    bytes[8..12].copy_from_slice(&update.address.to_be_bytes());
-    bytes[12] = update.length;
-    bytes[13..].copy_from_slice(&update.hop.to_be_bytes());
-    bytes
+impl From<Update> for [u8; Update::SIZE] {
+    ghost from_gives = { λ update bytes. bytes ≡ encoded update };
+
+    fn from(update: Update) -> [u8; Update::SIZE] {
+        let mut bytes = [0; Update::SIZE];
+        bytes[..2].copy_from_slice(&Update::LENGTH_FIELD.to_be_bytes());
+        bytes[2] = Update::VERSION;
+        bytes[3] = update.kind;
+        bytes[4..8].copy_from_slice(&update.serial.to_be_bytes());
+        bytes[8..12].copy_from_slice(&update.address.to_be_bytes());
+        bytes[12] = update.length;
+        bytes[13..].copy_from_slice(&update.hop.to_be_bytes());
+        bytes
+    }
 }
 
 // The tests on the fields, of a record whose length and version are right.
@@ -140,7 +144,7 @@ pub fn read(bytes: &[u8], expected: u32) -> Result<Update, Refusal>
     if record[2] != Update::VERSION {
         return Err(Refusal::WrongVersion);
     }
-    judge(update_of(record), expected)
+    judge(Update::from(record), expected)
 }
 
 // Writes the record of an update into the first bytes of the room. A refused write leaves the room as it was.
@@ -155,7 +159,7 @@ pub fn write(room: &mut [u8], update: Update) -> Result<(), Refusal>
     if has_stray_hop(kind, update.hop) {
         return Err(Refusal::WithdrawWithHop);
     }
-    *record = bytes_of(update);
+    *record = update.into();
     Ok(())
 }
 

@@ -1,5 +1,5 @@
 -- The goals that the check leaves.
-use mathlib.Core.Path.{◌≡◌, sym, subst}
+use mathlib.Core.Path.{◌≡◌, refl, sym, subst}
 use Prim.Native.Nat.{ℕ, ◌+◌, ◌*◌, ◌<◌}
 use native.Mathlib.Omega.{arith}
 use lib.ListN.{length}
@@ -9,11 +9,11 @@ use Rattle.prefix.specs.Geometry.{width, block_size}
 use Rattle.prefix.proofs.Spans.{aligned}
 use Rattle.cells.proofs.Lending.{few_firsts}
 use Rattle.rules.specs.inner.Blocks.{CursorAt}
-use Rattle.damage.proofs.Soundness.{CleanRun, clean_run?, sound_by?, sound_run?}
+use Rattle.damage.proofs.Soundness.{CleanRun, clean_part?, sound_by?, sound_run?}
 use Rattle.rules.proofs.AllLive.{ordered_listed}
 use Rattle.damage.proofs.Turns.{start_within, clean_run_lem, sound_run_lem, sound_here, walked_on}
 use Rattle.std.proofs.Common.{ap, not}
-use Rattle.damage.proofs.walk.Goals.{Else-not-clean_run}
+use Rattle.damage.proofs.walk.Goals.{Else-not-all_clean}
 use Rattle.damage.proofs.walk.Goals as goal
 
 pub overflow_add-end : goal.overflow_add-end
@@ -31,24 +31,22 @@ stretch-closed-requires c =
     let l = c.loop-block in
     subst (λ (a : ℕ). CursorAt c.args.live.words.now (length c.args.live.words.now) a l.here) (sym c.block_start-start.ensures) l.invariant.0.cursor
 
-pub clean_run-requires : goal.clean_run-requires
-clean_run-requires c = omega (arith, c.stretch-closed.ensures.within, c.requires.lent.all)
-
-pub returns-then-not-clean_run : goal.returns-then-not-clean_run
-returns-then-not-clean_run c =
+pub returns-then-not-all_clean : goal.returns-then-not-all_clean
+returns-then-not-all_clean c =
     let l = c.loop-block in
     sym (stops (sound_run? _ _ _ _) (λ all.
-    if_not (clean_run? _ _ _ _) c.clean_run.ensures (ap not c.if-not-clean_run.true)
+    if_not (clean_part? _ _ _ _ refl (omega (arith, c.stretch-closed.ensures.within, c.requires.lent.all))) c.all_clean.ensures (ap not c.if-not-all_clean.true)
     (clean_run_lem c.requires.sized (ordered_listed c.args.live.ordered) l.invariant.0 c.block_start-start.ensures c.stretch-closed.ensures (λ j m k. all j (omega arith) (omega arith)))))
 
 -- past the test, the stretch is clean
-clean : (c : Else-not-clean_run) → CleanRun width c.args.lent.first.now c.loop-block.block c.stretch-closed.result
-clean c = if_so (clean_run? _ _ _ _) c.clean_run.ensures (ap not c.if-not-clean_run.false)
+clean : (c : Else-not-all_clean) → CleanRun width c.args.lent.first.now c.loop-block.block c.stretch-closed.result
+clean c =
+    if_so (clean_part? _ _ _ _ refl (omega (arith, c.stretch-closed.ensures.within, c.requires.lent.all))) c.all_clean.ensures (ap not c.if-not-all_clean.false)
 
 pub returns-then-stop-end : goal.returns-then-stop-end
 returns-then-stop-end c =
     sym (passes (sound_run? _ _ _ _) (λ k m j.
-    sound_run_lem c.requires.sized (ordered_listed c.args.live.ordered) c.loop-block.invariant.0 c.block_start-start.ensures c.stretch-closed.ensures (clean (goal.at.returns-then-stop-end c).Else-not-clean_run) k m (omega arith)))
+    sound_run_lem c.requires.sized (ordered_listed c.args.live.ordered) c.loop-block.invariant.0 c.block_start-start.ensures c.stretch-closed.ensures (clean (goal.at.returns-then-stop-end c).Else-not-all_clean) k m (omega arith)))
 
 -- past the second, the block after it has a cell
 pub block_start-next-requires : goal.block_start-next-requires
@@ -89,7 +87,7 @@ pub loop-block-preserved : goal.loop-block-preserved
 loop-block-preserved c =
     let l = c.loop-block in (
       walked_on c.requires.sized (ordered_listed c.args.live.ordered) l.invariant.0 c.block_start-start.ensures c.stretch-closed.ensures c.block_start-next.ensures c.pass-cursor.ensures
-          (omega arith) (clean (goal.at.loop-block-preserved c).Else-not-clean_run)
+          (omega arith) (clean (goal.at.loop-block-preserved c).Else-not-all_clean)
           (if_so (sound_by? _ _ _) c.block_sound.ensures (ap not c.if-not-block_sound.false)),
       search rules,
     )
