@@ -144,6 +144,3 @@ closed_part first {from} {to} {end} all most inside k low high =
     let at : from + (k - from) ≡ k = omega arith in
     let here = get_or-between first from end (k - from) 0 (omega arith) in
     rw (here, at) at (all (k - from) 0 (omega (arith, length-between first from end inside)))
-
-pub closed_one : (b : ℕ) (first : List ℕ) → get_or first b 0 < pointer_bit → Closed b (b + 1) first
-closed_one b first direct = each_more (λ k. get_or first k 0 < pointer_bit) (λ k low high. absurd (omega arith)) direct

@@ -42,7 +42,8 @@ fn replaced(old: u32, new: u32, length: u32) -> u32
 }
 
 // Passes over those of the cells from..to that pass the test, up to the first that does not. It stays a call, so that its loop counts
-// nothing but cells.
+// nothing but cells, and a loop of its own: as `position` over a slice, inlined into its callers, withdrawals took 2.4 to 2.9 of plain C's
+// time where they take 1.8.
 #[inline(never)]
 fn pass_over<F: Fn(u32) -> bool>(cells: &[u32], from: usize, to: usize, passes: F) -> Option<usize>
     requires inside { Inside from to cells.now }
@@ -57,42 +58,6 @@ fn pass_over<F: Fn(u32) -> bool>(cells: &[u32], from: usize, to: usize, passes: 
         }
     }
     None
-}
-
-// Goes on to the run of the address: past the end of the one that is kept it is the next.
-fn go_on(live: Live, address: u32, run: &mut Run)
-    requires { KeptAt live.words.now address run.old }
-    ensures { Found live.entry.words.now address run.new }
-{
-    if run.end <= address as u64 {
-        *run = run.asked(live, address);
-    }
-}
-
-// Repaints a part of the cells, those of the addresses from `start` on.
-fn unpaint_run(
-    cells: &mut [u32],
-    part: Range<usize>,
-    start: u32,
-    live: Live,
-    length: u32,
-    run: &mut Run,
-) -> u32
-    requires within { Within part.start part.end cells.old }
-    requires in_range { start + (part.end - part.start) ≤ 2 ^ 32 }
-    requires kept { KeptAt live.words.now start run.old }
-    ensures { RunUnpainted length live.entry.words.now start part.start part.end cells.old cells.new result run.new }
-{
-    let mut changed = 0;
-    let mut next = part.start;
-    while let Some(i) = pass_over(cells, next, part.end, move |cell| stays(cell, length)) {
-        let address = start + (i - part.start) as u32;
-        go_on(live, address, run);
-        let end = i + (part.end - i).min((run.end - address as u64) as usize);
-        changed += change_run(cells, i..end, |old| replaced(old, run.cell, length));
-        next = end;
-    }
-    changed
 }
 
 // Whether the block of this first cell is passed over: it is no pointer, and stays.
@@ -119,7 +84,7 @@ fn piece(first: &[u32], block: usize, to: usize, room: u64) -> usize
     requires closed { Closed block (block + 1) first.now }
     ensures { PieceIs room block to first.now result }
 {
-    let whole = (room / Block::SIZE as u64).max(1) as usize;
+    let whole = (room / Block::SPAN).max(1) as usize;
     let stop = block + Block::CELLS.min(to - block).min(whole);
     if none_open(&first[block..stop]) {
         return stop;
@@ -127,65 +92,108 @@ fn piece(first: &[u32], block: usize, to: usize, room: u64) -> usize
     block + 1
 }
 
-// Repaints the first of the blocks block..to: the segment that its first cell points to, or else that cell and those after it that take
-// the same. It also returns where the blocks end that it has repainted.
-fn unpaint_some(
-    first: &mut [u32],
-    long: &mut [u32],
-    owners: &[u32],
-    live: Live,
-    territory: Prefix,
-    block: usize,
-    to: usize,
+// A withdrawal of a prefix of this length, and the rules that are left. Its functions repaint a part of the tables each, and go on from the
+// run that they are lent.
+#[derive(Clone, Copy)]
+struct Withdrawal<'a> {
+    live: Live<'a>,
     length: u32,
-    run: &mut Run,
-) -> (u32, usize)
-    requires blocks_ready { BlocksReady territory block to (tables_of first.old long.old owners.now) }
-    requires some_blocks { block < to }
-    requires kept { KeptAt live.words.now (block_start territory block) run.old }
-    ensures { SomeUnpainted territory length live.entry.words.now block to (tables_of first.old long.old owners.now)
-        first.new long.new result.0 run.new result.1 }
-{
-    let start = block_start(territory, block);
-    let cell = first[block];
-    if Cell::is_pointer(cell) {
-        let part = place::segment_cells(cell);
-        let changed = unpaint_run(long, part, start, live, length, run);
-        return (changed, block + 1);
-    }
-    go_on(live, start, run);
-    let stop = piece(first, block, to, run.end - start as u64);
-    let changed = change_run(first, block..stop, |old| replaced(old, run.cell, length));
-    (changed, stop)
 }
 
-// Repaints the blocks from..to.
-fn unpaint_blocks(
-    first: &mut [u32],
-    long: &mut [u32],
-    owners: &[u32],
-    live: Live,
-    territory: Prefix,
-    from: usize,
-    to: usize,
-    length: u32,
-    run: &mut Run,
-) -> u32
-    requires blocks_ready { BlocksReady territory from to (tables_of first.old long.old owners.now) }
-    requires kept { KeptAt live.words.now (block_start territory from) run.old }
-    ensures { BlocksUnpainted territory length live.entry.words.now from to (tables_of first.old long.old owners.now)
-        first.new long.new result run.new }
-{
-    let mut changed = 0;
-    let mut next = from;
-    while let Some(block) = pass_over(first, next, to, move |cell| passed(cell, length)) {
-        let (some, stop) = unpaint_some(
-            first, long, owners, live, territory, block, to, length, run,
-        );
-        changed += some;
-        next = stop;
+impl<'a> Withdrawal<'a> {
+    // Goes on to the run of the address: past the end of the one that is kept it is the next.
+    fn go_on(self, address: u32, run: &mut Run)
+        requires { KeptAt self.live.words.now address run.old }
+        ensures { Found self.entry.live.words.now address run.new }
+    {
+        if run.end <= address as u64 {
+            *run = run.asked(self.live, address);
+        }
     }
-    changed
+
+    // Repaints a part of the cells, those of the addresses from `start` on.
+    fn unpaint_run(self, cells: &mut [u32], part: Range<usize>, start: u32, run: &mut Run) -> u32
+        requires within { Within part.start part.end cells.old }
+        requires in_range { start + (part.end - part.start) ≤ 2 ^ 32 }
+        requires kept { KeptAt self.live.words.now start run.old }
+        ensures { RunUnpainted self.entry.length self.entry.live.words.now start part.start part.end
+            cells.old cells.new result run.new }
+    {
+        let length = self.length;
+        let mut changed = 0;
+        let mut next = part.start;
+        // No `for`: a turn goes on by as many cells as it changed.
+        while let Some(i) = pass_over(cells, next, part.end, move |cell| stays(cell, length)) {
+            let address = start + (i - part.start) as u32;
+            self.go_on(address, run);
+            let end = i + (part.end - i).min((run.end - address as u64) as usize);
+            let new = run.cell;
+            changed += change_run(cells, i..end, move |old| replaced(old, new, length));
+            next = end;
+        }
+        changed
+    }
+
+    // Repaints the first of the blocks block..to: the segment that its first cell points to, or else that cell and those after it that take
+    // the same. It also returns where the blocks end that it has repainted.
+    fn unpaint_some(
+        self,
+        first: &mut [u32],
+        long: &mut [u32],
+        owners: &[u32],
+        territory: Prefix,
+        block: usize,
+        to: usize,
+        run: &mut Run,
+    ) -> (u32, usize)
+        requires blocks_ready { BlocksReady territory block to (tables_of first.old long.old owners.now) }
+        requires some_blocks { block < to }
+        requires kept { KeptAt self.live.words.now (block_start territory block) run.old }
+        ensures { SomeUnpainted territory self.entry.length self.entry.live.words.now block to (tables_of first.old long.old owners.now)
+            first.new long.new result.0 run.new result.1 }
+    {
+        let start = block_start(territory, block);
+        let cell = first[block];
+        if Cell::is_pointer(cell) {
+            let part = place::segment_cells(cell);
+            let changed = self.unpaint_run(long, part, start, run);
+            return (changed, block + 1);
+        }
+        self.go_on(start, run);
+        let stop = piece(first, block, to, run.end - start as u64);
+        let new = run.cell;
+        let length = self.length;
+        let changed = change_run(first, block..stop, move |old| replaced(old, new, length));
+        (changed, stop)
+    }
+
+    // Repaints the blocks from..to.
+    fn unpaint_blocks(
+        self,
+        first: &mut [u32],
+        long: &mut [u32],
+        owners: &[u32],
+        territory: Prefix,
+        from: usize,
+        to: usize,
+        run: &mut Run,
+    ) -> u32
+        requires blocks_ready { BlocksReady territory from to (tables_of first.old long.old owners.now) }
+        requires kept { KeptAt self.live.words.now (block_start territory from) run.old }
+        ensures { BlocksUnpainted territory self.entry.length self.entry.live.words.now from to (tables_of first.old long.old owners.now)
+            first.new long.new result run.new }
+    {
+        let length = self.length;
+        let mut changed = 0;
+        let mut next = from;
+        // No `for`: a turn goes on by as many blocks as it changed.
+        while let Some(block) = pass_over(first, next, to, move |cell| passed(cell, length)) {
+            let (some, stop) = self.unpaint_some(first, long, owners, territory, block, to, run);
+            changed += some;
+            next = stop;
+        }
+        changed
+    }
 }
 
 // Repaints each cell in the prefix, direct or in an open segment, and returns how many cells of both tables differ. The rules are those
@@ -205,16 +213,17 @@ pub fn unpaint(
         ≡ leaves (repainted territory prefix (unpaint_cell prefix.length (routes live.entry.words.now)))
         (tables_of first.old long.old owners.now) }
 {
-    let length = prefix.length;
+    let withdrawal = Withdrawal {
+        live,
+        length: prefix.length,
+    };
     let block = blocks.from;
     // The loops only go on from this run, so that the search stays a call in them.
     let mut run = runs::longest(live, prefix.address);
-    if length <= Block::WIDTH {
+    if prefix.length <= Block::WIDTH {
         let to = block + blocks.count;
-        return unpaint_blocks(
-            first, long, owners, live, territory, block, to, length, &mut run,
-        );
+        return withdrawal.unpaint_blocks(first, long, owners, territory, block, to, &mut run);
     }
     let part = place::prefix_cells(Cell::segment(first[block]), prefix);
-    unpaint_run(long, part, prefix.address, live, length, &mut run)
+    withdrawal.unpaint_run(long, part, prefix.address, &mut run)
 }

@@ -2,7 +2,7 @@
 -- Assumes nothing.
 use native.Mathlib.Omega.{arith}
 use borrow.Author.Rules.{rules}
-use Rattle.unpaint.proofs.go_on.Goals as goal
+use Rattle.unpaint.proofs.Withdrawal.go_on.Goals as goal
 
 pub returns-else-run-address : goal.returns-else-run-address
 returns-else-run-address c = record { past = omega arith; kept = search rules }

@@ -11,19 +11,19 @@ use Rattle.tables.specs.inner.Ranges.{BlocksChanged}
 use Rattle.tables.proofs.Blocks.{blocks_none, few_blocks, blocks_then, ready_then}
 use Rattle.unpaint.specs.inner.Unpaint.{passed}
 use Rattle.unpaint.proofs.Unpainting.{blocks_passed}
-use Rattle.unpaint.proofs.unpaint_blocks.Goals.{After-unpaint_some-some}
-use Rattle.unpaint.proofs.unpaint_blocks.Goals as goal
+use Rattle.unpaint.proofs.Withdrawal.unpaint_blocks.Goals.{After-unpaint_some-some}
+use Rattle.unpaint.proofs.Withdrawal.unpaint_blocks.Goals as goal
 
 -- one turn repaints the blocks that it passes over, which stay, and some after them
 turned : (c : After-unpaint_some-some) → let a = c.args in let some = c.unpaint_some-some in
-    BlocksChanged a.territory (unpaint_cell a.length (routes a.live.words.now)) a.from some.result.1 (tables_of a.first.now a.long.now a.owners.now)
+    BlocksChanged a.territory (unpaint_cell a.self.length (routes a.self.live.words.now)) a.from some.result.1 (tables_of a.first.now a.long.now a.owners.now)
     some.new.first some.new.long (c.loop-block.changed + some.result.0)
 turned c =
     let inv = c.loop-block.invariant in
     let found = c.in-Some.ensures.found in
     let some = c.unpaint_some-some.ensures in
-    let passed = c.in-Some.ensures.passed (passed c.args.length) (λ x y h. search rules) in
-    let over = blocks_passed c.args.length (routes c.args.live.words.now) inv.2.blocks inv.0 found.0 passed in
+    let passed = c.in-Some.ensures.passed (passed c.args.self.length) (λ x y h. search rules) in
+    let over = blocks_passed c.args.self.length (routes c.args.self.live.words.now) inv.2.blocks inv.0 found.0 passed in
     blocks_then over (omega (arith, inv.0, found)) (omega (arith, some.some)) some.done.blocks
 
 pub loop-block-init : goal.loop-block-init
@@ -33,8 +33,8 @@ pub unpaint_some-some-requires-clause-blocks_ready : goal.unpaint_some-some-requ
 unpaint_some-some-requires-clause-blocks_ready c =
     let inv = c.loop-block.invariant in
     let found = c.in-Some.ensures.found in
-    let passed = c.in-Some.ensures.passed (passed c.args.length) (λ x y h. search rules) in
-    let over = blocks_passed c.args.length (routes c.args.live.words.now) inv.2.blocks inv.0 found.0 passed in
+    let passed = c.in-Some.ensures.passed (passed c.args.self.length) (λ x y h. search rules) in
+    let over = blocks_passed c.args.self.length (routes c.args.self.live.words.now) inv.2.blocks inv.0 found.0 passed in
     ready_then over (omega (arith, inv.0, found)) (omega (arith, found)) (le_refl _) c.requires.blocks_ready
 
 pub overflow_add-changed : goal.overflow_add-changed
@@ -52,7 +52,7 @@ pub returns : goal.returns
 returns c =
     let inv = c.loop-block.invariant in
     record {
-      blocks = blocks_passed c.args.length (routes c.args.live.words.now) inv.2.blocks inv.0 inv.1
-          (c.in_default.ensures.passed (passed c.args.length) (λ x y h. search rules));
+      blocks = blocks_passed c.args.self.length (routes c.args.self.live.words.now) inv.2.blocks inv.0 inv.1
+          (c.in_default.ensures.passed (passed c.args.self.length) (λ x y h. search rules));
       kept = kept_later (omega (arith, inv.1)) inv.2.kept;
     }

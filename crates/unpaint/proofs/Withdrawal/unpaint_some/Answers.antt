@@ -15,8 +15,8 @@ use Rattle.tables.specs.inner.Ready.{segment_at, Owns}
 use Rattle.unpaint.specs.inner.Unpaint.{KeptAt, replaced}
 use Rattle.tables.proofs.Blocks.{block_points, segment_within, run_addressed, block_ends}
 use Rattle.unpaint.proofs.Unpainting.{run_taken, blocks_closed}
-use Rattle.unpaint.proofs.unpaint_some.Goals.{After-block_start-start, Start, Then-is_pointer}
-use Rattle.unpaint.proofs.unpaint_some.Goals as goal
+use Rattle.unpaint.proofs.Withdrawal.unpaint_some.Goals.{After-block_start-start, Start, Then-is_pointer}
+use Rattle.unpaint.proofs.Withdrawal.unpaint_some.Goals as goal
 
 -- the first block ends within the addresses
 end : (c : Start) → block_start c.args.territory (c.args.block + 1) ≤ 2 ^ 32
@@ -28,7 +28,7 @@ owns c =
     c.requires.blocks_ready.owned c.args.block (le_refl _) (omega arith) (leb-true _ _ (sym c.is_pointer.ensures ∙ c.if-is_pointer.true))
 
 -- the run that is kept may be asked from there
-asking : (c : After-block_start-start) → let a = c.args in KeptAt a.live.words.now c.block_start-start.result a.run.now
+asking : (c : After-block_start-start) → let a = c.args in KeptAt a.self.live.words.now c.block_start-start.result a.run.now
 asking c =
     kept_later (omega (arith, c.block_start-start.ensures)) c.requires.kept
 
@@ -45,7 +45,7 @@ returns-then-is_pointer c =
     let at = goal.at.returns-then-is_pointer c in
     let a = c.args in
     let cells = c.segment_cells-part.ensures in
-    let run = run_addressed (unpaint_cell a.length (routes a.live.words.now)) a.territory (owns at.Then-is_pointer) 0 (omega (arith, cells.low))
+    let run = run_addressed (unpaint_cell a.self.length (routes a.self.live.words.now)) a.territory (owns at.Then-is_pointer) 0 (omega (arith, cells.low))
     (omega (arith, cells.low, cells.high)) (omega (arith, c.block_start-start.ensures)) c.unpaint_run-changed.ensures.changed in
     record {
       some = omega arith;
@@ -67,8 +67,8 @@ returns c =
       within = piece.within;
       done = record {
         blocks = blocks_closed piece.closed
-            (run_taken a.length (block_start a.territory) found.kept (λ k low high. (omega (arith, start), omega (arith, start, piece.fit)))
-            (c.change_run-changed.ensures.changed (replaced a.length c.go_on.new.run.cell) (λ x y h. search rules)) (omega arith));
+            (run_taken a.self.length (block_start a.territory) found.kept (λ k low high. (omega (arith, start), omega (arith, start, piece.fit)))
+            (c.change_run-changed.ensures.changed (replaced a.self.length c.go_on.new.run.cell) (λ x y h. search rules)) (omega arith));
         kept = kept_later (omega (arith, start, piece.some)) found.kept;
       };
     }

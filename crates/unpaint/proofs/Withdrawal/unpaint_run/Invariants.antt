@@ -5,12 +5,12 @@ use Rattle.rules.specs.Rules.{routes}
 use Rattle.tables.specs.Cellwise.{unpaint_cell}
 use Rattle.unpaint.specs.inner.Unpaint.{KeptAt}
 use Rattle.unpaint.proofs.Unpainting.{Reached}
-use Rattle.unpaint.proofs.unpaint_run.Given as goal
+use Rattle.unpaint.proofs.Withdrawal.unpaint_run.Given as goal
 
 abbrev pub invariant-loop-i : goal.invariant-loop-i
 invariant-loop-i l =
-    Reached (λ k. unpaint_cell l.length (routes l.live.words.now) (l.start + (k - l.part.start))) l.part.start l.part.end l.initial.cells l.cells l.changed l.next
-    × KeptAt l.live.words.now (l.start + (l.next - l.part.start)) l.run
+    Reached (λ k. unpaint_cell l.self.length (routes l.self.live.words.now) (l.start + (k - l.part.start))) l.part.start l.part.end l.initial.cells l.cells l.changed l.next
+    × KeptAt l.self.live.words.now (l.start + (l.next - l.part.start)) l.run
 
 abbrev pub decreases-loop-i : goal.decreases-loop-i
 decreases-loop-i l = l.part.end - l.next
