@@ -13,7 +13,8 @@ use cells::cell::Cell;
 use prefix::Prefix;
 use prefix::geometry::{Block, Blocks};
 
-// What becomes of one cell under a new cell of a prefix of this length.
+// What becomes of one cell under a new cell of a prefix of this length. Both go on through the functions below, as two numbers that a closure takes
+// as they are.
 pub fn paint_cell(old: u32, new: u32, length: u32) -> u32
     ensures { result ≡ paint_cell length new old }
 {
