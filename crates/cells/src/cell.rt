@@ -5,7 +5,8 @@ ghost use Rattle.cells.specs.Cells.{pack, hop_of, length_of, is_direct, pointer_
 
 use prefix::LAST_HOP;
 
-// The kind of a table's words: its numbers and functions, on words that are plain u32.
+// The kind of a table's words: its numbers and functions, on words that are plain u32. They are C's memory, so a word is taken apart here by
+// hand; the paper asks for this type.
 #[derive(Drop)]
 pub struct Cell {}
 
@@ -65,7 +66,7 @@ impl Cell {
         (cell - Cell::POINTER) as usize
     }
 
-    // The pointer to a segment.
+    // The pointer to a segment: one number with a bound, where it is added.
     pub fn point_to(segment: usize) -> u32
         requires { segment < pointer_bit }
         ensures { result ≡ point_to segment }

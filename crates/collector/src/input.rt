@@ -14,8 +14,8 @@ pub enum After {
     End,
 }
 
-// How many bytes the buffer holds, and what comes after them: nothing where a read failed. It is a count and no slice: how much of it is taken
-// is told next, of both.
+// How many bytes the buffer holds, and what comes after them: nothing where a read failed. It is a count and no slice, since a
+// slice would borrow the buffer.
 #[derive(Clone, Copy)]
 pub struct Filled {
     pub count: usize,

@@ -44,7 +44,8 @@ impl Word for [u8; 4] {
     }
 }
 
-// The kind of an answer as one number, code * CODE + length * LENGTH + hop: no other file knows how it is made.
+// The kind of an answer as one number, code * CODE + length * LENGTH + hop: no other file knows how it is made. It is what C gets, and what is
+// handed on inside too: with a Result there, and the number made at the edge, a model of it took 11.3 ns for 8.7.
 #[derive(Drop)]
 pub struct Packed {}
 

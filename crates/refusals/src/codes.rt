@@ -15,8 +15,8 @@ use prefix::geometry::{Blocks, touched};
 use prefix::{LAST_HOP, Prefix, Route};
 use rules::form::form_of;
 
-// What the tests found of an update that none of them refuses: how many rules are live, where the prefix stands among them or would stand, the
-// blocks that it touches, and the segment that is opened for it, if one is needed.
+// What the tests found of an update that none of them refuses: how many rules are live (a count, since all lent words are written next), where
+// the prefix stands among them or would stand, the blocks that it touches, and the segment that is opened for it, if one is needed.
 #[derive(Clone, Copy)]
 pub struct Checked {
     pub used: usize,
@@ -78,7 +78,7 @@ fn tests(lent: Lent, territory: Prefix, prefix: Prefix, lets: bool) -> Result<Ch
     damage_tests(lent, territory, prefix)
 }
 
-// Refusals 1 to 5: of an update of a live prefix. Its block has a segment, if it is longer than 24, since nothing is damaged.
+// Refusals 1 to 5: of an update of a live prefix. Its block has a segment, if it is longer than 24, since nothing is damaged. `lets` as in `tests`.
 fn live_tests(lent: Lent, territory: Prefix, prefix: Prefix, lets: bool) -> Result<Checked, Refusal>
     requires { lets ≡ true → WellFormed prefix }
     ensures { LiveTestsTell territory prefix lets (held lent.entry) result }
@@ -90,7 +90,8 @@ fn live_tests(lent: Lent, territory: Prefix, prefix: Prefix, lets: bool) -> Resu
     Ok(checked)
 }
 
-// Whether there is no room for a prefix in the list: it is not live, and each word is.
+// Whether there is no room for a prefix in the list: it is not live, and each word is. Of the place and of the live words no more is asked than
+// this answer and this count.
 fn is_full(found: bool, used: usize, words: usize) -> bool
     ensures { result ≡ (not found && eqb used words) }
 {

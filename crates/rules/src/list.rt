@@ -34,6 +34,7 @@ impl<'a> Live<'a> {
     {
         let mut high = from;
         let mut stride = 1;
+        // No `for`: the strides grow.
         while stride <= high {
             let at = high - stride;
             if Rule::key(self.words[at]) < key {
@@ -45,7 +46,7 @@ impl<'a> Live<'a> {
         self.between(key, 0, high)
     }
 
-    // Where the word of a live prefix stands, or, as an `Err`, where that of one that is not live would.
+    // Where the word of a live prefix stands, or, as an `Err`, where that of one that is not live would: the index of `position` in both cases.
     pub fn find(self, prefix: Prefix) -> Result<usize, usize>
         requires { WellFormed prefix }
         ensures { PlaceIs self.entry.words.now (length self.entry.words.now) prefix (index_of result) (is_ok result) }

@@ -6,7 +6,7 @@ ghost use Rattle.rules.specs.Words.{prefix_of, route_of, word_of, key_of, is_rul
 
 use prefix::{LAST_HOP, Prefix, Route, cleared};
 
-// The kind of a rule word: its numbers and functions, on words that are plain u64.
+// The kind of a rule word: its numbers and functions, on words that are plain u64. They are C's memory, so a word is taken apart here by hand.
 #[derive(Drop)]
 pub struct Rule {}
 
@@ -69,7 +69,8 @@ impl Rule {
         prefix.address as u64 * Rule::LENGTH + prefix.length as u64
     }
 
-    // Whether the word is a rule of the territory. It is asked of every lent word, so the masks are by shifts.
+    // Whether the word is a rule of the territory. It is asked of every lent word, so the masks are by shifts. That the territory is one stands in
+    // the clause, here and in the three functions that pass it on: C's calls may pass any, and the sizes that are tested first say it elsewhere.
     pub fn is_rule(word: u64, territory: Prefix) -> bool
         requires { Territory territory }
         ensures { result ≡ is_rule territory word }

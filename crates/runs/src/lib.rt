@@ -69,6 +69,7 @@ impl<'a> Place<'a> {
     {
         let mut length = 32;
         let mut count = self.at;
+        // No `for`: each turn looks at the last of fewer words.
         while let Some(word) = self.live.words[..count].last() {
             let prefix = Rule::prefix(*word);
             if prefix.contains(self.address) {

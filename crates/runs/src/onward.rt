@@ -14,6 +14,7 @@ fn skip_ended(live: Live, from: usize, address: u32) -> Option<usize>
     ensures { IfSome result (λ at. SkippedIs live.entry.words.now (length live.entry.words.now) address from at) }
 {
     let words = live.words;
+    // By index, since it is the answer.
     for i in from..words.len() {
         let prefix = Rule::prefix(words[i]);
         if address < prefix.address {

@@ -51,7 +51,8 @@ fn paint_block(
     differ(cell, next)
 }
 
-// Paints the blocks from..to, and returns how many cells of both tables differ.
+// Paints the blocks from..to, and returns how many cells of both tables differ. They are two numbers, since over a Range in a variable the facts
+// of the loop are an iterator's.
 fn paint_blocks(
     first: &mut [u32],
     long: &mut [u32],

@@ -167,7 +167,7 @@ impl<'a> Withdrawal<'a> {
         (changed, stop)
     }
 
-    // Repaints the blocks from..to.
+    // Repaints the blocks from..to: two numbers here, in `pass_over` and in `piece`, as in `tables::paint`.
     fn unpaint_blocks(
         self,
         first: &mut [u32],
