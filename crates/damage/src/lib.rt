@@ -1,7 +1,7 @@
 // Damage, refusal 4 of an update: one walk along the blocks that the prefix touches and the rules that lie in them.
 #![tactic(auto)]
 
-ghost use Rattle.std.specs.Prelude.{◌≡◌, ◌+◌, ◌*◌, ◌^◌, ◌<◌, ◌≤◌, length};
+ghost use Rattle.std.specs.Prelude.{◌≡◌, ◌+◌, ◌*◌, ◌^◌, ◌<◌, length};
 ghost use Rattle.prefix.specs.Geometry.{width, block_size};
 ghost use Rattle.rules.specs.Rules.{routes};
 ghost use Rattle.cells.specs.Memory.{Sized, held};
