@@ -1,6 +1,6 @@
 -- Pieces of the input, one after another, and the last line of a history. Assumes nothing.
 use Rattle.std.proofs.Common.{◌≡◌, refl, sym, ap, subst, ◌∙◌, ℕ, ◌≤◌, arith}
-use Rattle.std.proofs.Common.{[], ◌++◌, length-append, Result, Ok, Err, IsErr}
+use Rattle.std.proofs.Common.{[], ◌++◌, length-append, Result, Ok, Err, IsErr, IfOk, IsOkAnd, MatchResult}
 use Rattle.ground.specs.declared.refusal.Refusal.{Refusal}
 use Rattle.ground.specs.Refusals.{code_of}
 use Rattle.prefix.specs.Prefixes.{Contains}
@@ -10,7 +10,7 @@ use Rattle.history.specs.History.{start, memory, live, IsAnswer}
 use Rattle.updates.specs.declared.Report.{Report}
 use Rattle.updates.specs.Calls.{clear, reported, Outcome}
 use Rattle.history.proofs.Demand2.{demand_2}
-use Rattle.stream.specs.Stream.{Stream, stream_of, number_of, lent_after, used}
+use Rattle.stream.specs.Stream.{Stream, Step, stream_of, number_of, lent_after, used}
 use Rattle.stream.proofs.Streams.{stream_none, stream_joined, lent_after_joined, memory-goes_on}
 use Rattle.stream.proofs.Counting.{live_counted}
 use Rattle.collector.specs.declared.failures.Failed.{Failed}
@@ -18,7 +18,7 @@ use Rattle.collector.specs.declared.input.After.{After}
 use Rattle.collector.specs.declared.input.Filled.{Filled}
 use Rattle.collector.specs.declared.run.Next.{Next}
 use Rattle.collector.specs.declared.run.Next.TheVariants.{Expects as Goes, Ends}
-use Rattle.collector.specs.declared.output.Last.{Last}
+use Rattle.collector.specs.declared.run.Ended.{Ended}
 use Rattle.collector.specs.Running.{site, FilledIs, takes, count_of, ended_by, Agrees, Handed, history_of, LastIs}
 
 -- nothing handed over yet
@@ -82,24 +82,26 @@ module _ {m k n : Lent} {o : Report} (lent : IsLent site m) (cleared : reported 
       H.lent ∙ ap (λ (x : Outcome). lent_after site x.lent (stream_of H.bytes 0).updates) cleared
       ∙ sym (memory-goes_on site m start (stream_of H.bytes 0).updates)
 
-  pub last_is : {end : Result (Unit {0}) Refusal} {last : Last} → Handed 0 k (Ok (Ends end)) n
-      → last.code ≡ code_of end → last.prefixes ≡ used n.rules → last.segments ≡ used n.tables.owners
-      → LastIs m (Ok last) n
-  last_is H g e f = record {
+  -- where nothing failed there is a number, that of the stream's end; the counts are of what the memory holds, failed or not
+  pub last_is : {r : Ended} (end : Result (Result (Unit {0}) Refusal) Failed) → Handed 0 k (ended_by end) n
+      → MatchResult end (λ e. IsOkAnd r.code (λ number. number ≡ code_of e)) (λ failed. r.code ≡ Err failed)
+      → r.prefixes ≡ used n.rules → r.segments ≡ used n.tables.owners → LastIs m r n
+  last_is {r} end H g e f = record {
     bytes = H.bytes;
     lent = memory_is H;
-    number = g ∙ H.says;
+    number = numbered end r.code (stream_of H.bytes 0).step H.says g;
     prefixes = e ∙ ap (λ (x : Lent). used x.rules) (memory_is H) ∙ live_counted site m lent (history_of H.bytes);
     segments = f ∙ ap (λ (x : Lent). used x.tables.owners) (memory_is H);
   }
-
-  -- a read or a write failed, and there is no last line
-  pub no_last : {failed : Failed} (r : Result Last Failed) → IsErr r → Handed 0 k (Err failed) n → LastIs m r n
-  no_last (Ok last) e H = cc e
-  no_last (Err failed) e H = record { bytes = H.bytes; lent = memory_is H; number = tt; prefixes = tt; segments = tt }
+    where
+      numbered : (end : Result (Result (Unit {0}) Refusal) Failed) (code : Result ℕ Failed) (s : Step) → Agrees (ended_by end) s H.bytes
+          → MatchResult end (λ e. IsOkAnd code (λ number. number ≡ code_of e)) (λ failed. code ≡ Err failed) → IfOk code (λ number. number ≡ number_of s)
+      numbered (Ok e) (Ok number) s w g = g ∙ w
+      numbered (Ok e) (Err failed) s w g = tt
+      numbered (Err failed) code s w g = subst (λ (x : Result ℕ Failed). IfOk x (λ number. number ≡ number_of s)) (sym g) tt
 
 -- Demand 2 of the program's tables: whatever was handed over, look up answers every address of the territory by the longest match.
-pub tables_answer : (m : Lent) {n : Lent} {r : Result Last Failed} → IsLent site m → (R : LastIs m r n) → (a : ℕ) → Contains site a
+pub tables_answer : (m : Lent) {n : Lent} {r : Ended} → IsLent site m → (R : LastIs m r n) → (a : ℕ) → Contains site a
     → IsAnswer (live site m (history_of R.bytes)) a (look_up n.tables.first n.tables.long site a)
 tables_answer m lent R a c =
     subst (λ (x : Lent). IsAnswer (live site m (history_of R.bytes)) a (look_up x.tables.first x.tables.long site a)) (sym R.lent)

@@ -15,6 +15,7 @@ use Rattle.collector.specs.declared.input.After.TheVariants.{Records, End}
 use Rattle.collector.specs.declared.input.Filled.{Filled}
 use Rattle.collector.specs.declared.run.Next.{Next}
 use Rattle.collector.specs.declared.run.Next.TheVariants.{Expects as Goes, Ends}
+use Rattle.collector.specs.declared.run.Ended.{Ended}
 use Rattle.collector.specs.declared.output.Last.{Last}
 
 -- 10.16.0.0/12
@@ -79,10 +80,11 @@ abbrev pub text_of : Last → List ℕ
 text_of l = codes "end " ++ decimal l.code ++ codes " live " ++ decimal l.prefixes ++ codes " open " ++ decimal l.segments ++ codes "\n"
 
 -- some bytes, those that were handed over: the memory at exit is that of their history, and the last line has the number with which
--- their stream ends, how many prefixes are live, and how many segments are open, that is have an owner word that is not 0
-pub record LastIs (m : Lent) (r : Result Last Failed) (n : Lent) : Type 0 where
+-- their stream ends, how many prefixes are live, and how many segments are open, that is have an owner word that is not 0; where a read or
+-- a write failed there is no number, and the two counts are the same
+pub record LastIs (m : Lent) (r : Ended) (n : Lent) : Type 0 where
   pub bytes : List ℕ
   pub lent : n ≡ memory site m (history_of bytes)
-  pub number : IfOk r (λ last. last.code ≡ number_of (stream_of bytes 0).step)
-  pub prefixes : IfOk r (λ last. last.prefixes ≡ length (live site m (history_of bytes)))
-  pub segments : IfOk r (λ last. last.segments ≡ used (memory site m (history_of bytes)).tables.owners)
+  pub number : IfOk r.code (λ code. code ≡ number_of (stream_of bytes 0).step)
+  pub prefixes : r.prefixes ≡ length (live site m (history_of bytes))
+  pub segments : r.segments ≡ used (memory site m (history_of bytes)).tables.owners

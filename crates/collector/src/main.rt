@@ -8,6 +8,7 @@ mod output;
 mod run;
 
 use failures::Failed;
+use output::Last;
 use std::env::{Env, FillError};
 use std::process::ExitCode;
 use std::rt::Clock;
@@ -29,9 +30,15 @@ fn print_stream<R: Input + Print + Eprint + Clock>(rt: &R) -> Result<u32, Failed
     let mut owners = [0u32; 16];
     let mut rules = [0u64; 64];
     output::print(rt, output::HEADER)?;
-    let last = run::run(rt, &mut first, &mut long, &mut owners, &mut rules)?;
+    let ended = run::run(rt, &mut first, &mut long, &mut owners, &mut rules);
+    let code = ended.code?;
+    let last = Last {
+        code,
+        prefixes: ended.prefixes,
+        segments: ended.segments,
+    };
     output::print(rt, last)?;
-    Ok(last.code)
+    Ok(code)
 }
 
 // Runs the program, and answers its exit status: 0 at a clean end of the input, 1 where a record was refused, 2 where a read or a write

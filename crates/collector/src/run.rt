@@ -5,7 +5,6 @@ ghost use Rattle.collector.specs.Running.{site, count_of, next_of, ended_by, Han
 
 use crate::failures::Failed;
 use crate::input::{After, Filled};
-use crate::output::Last;
 use crate::{input, output};
 use ground::refusal::{self, Refusal};
 use prefix::Prefix;
@@ -101,6 +100,15 @@ fn take_stream<R: Input + Print + Eprint + Clock>(
     Err(Failed)
 }
 
+// What the whole stream came to: the number of the last line, where neither a read nor a write failed; and what the memory holds at the end,
+// failed or not.
+#[derive(Clone, Copy)]
+pub struct Ended {
+    pub code: Result<u32, Failed>,
+    pub prefixes: u64,
+    pub segments: u64,
+}
+
 // From cleared memory, the whole stream, and the numbers of the last line.
 pub fn run<R: Input + Print + Eprint + Clock>(
     rt: &R,
@@ -108,15 +116,15 @@ pub fn run<R: Input + Print + Eprint + Clock>(
     long: &mut [u32],
     owners: &mut [u32],
     rules: &mut [u64],
-) -> Result<Last, Failed>
+) -> Ended
     requires { IsLent site (lent_of first.old long.old owners.old rules.old) }
     ensures { LastIs (lent_of first.old long.old owners.old rules.old) result (lent_of first.new long.new owners.new rules.new) }
 {
     let _ = updates::clear(first, long, owners, rules, TERRITORY);
-    let end = take_stream(rt, first, long, owners, rules)?;
-    Ok(Last {
-        code: refusal::code(end),
+    let end = take_stream(rt, first, long, owners, rules);
+    Ended {
+        code: end.map(refusal::code),
         prefixes: counts::live_prefixes(rules),
         segments: counts::open_segments(owners),
-    })
+    }
 }

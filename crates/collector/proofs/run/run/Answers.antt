@@ -1,12 +1,9 @@
--- `run` meets its contract: clear, then what was handed over, then the counts. Assumes nothing.
+-- `run` meets its contract: clear, then what was handed over, then the counts, where something failed as well. Assumes nothing.
 use Rattle.std.proofs.Common.{arith}
-use Rattle.collector.proofs.Running.{last_is, no_last}
+use Rattle.collector.proofs.Running.{last_is}
 use Rattle.collector.proofs.run.run.Goals as goal
-
-pub returns-in_err-end : goal.returns-in_err-end
-returns-in_err-end g c = no_last c.requires c.clear.ensures _ c.from_residual.ensures.0 c.in_err-end.ensures
 
 pub returns : goal.returns
 returns g c =
-    last_is c.requires c.clear.ensures c.in_ok-end.ensures c.code.ensures
+    last_is c.requires c.clear.ensures c.take_stream-end.result c.take_stream-end.ensures c.map.ensures.cases
     (omega (arith, c.live_prefixes.ensures)) (omega (arith, c.open_segments.ensures))
