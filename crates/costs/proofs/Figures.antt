@@ -5,8 +5,7 @@ use mathlib.Core.List.{List, [], ◌∷◌}
 use Prim.Native.Nat.{ℕ, ◌+◌, ◌-◌, ◌^◌}
 use lib.IntN.{negsuc}
 use lib.Ieee.{fin, div, of_int, round, lt}
-use Rattle.ground.specs.declared.refusal.Refusal.TheVariants.{TooManyOctets, TooManyCents}
-use Rattle.costs.specs.Lines.{words_line, refusal_of}
+use Rattle.costs.specs.Lines.{words_line}
 use Rattle.costs.specs.Ranks.{before, hop_word, ahead, class_of, dearer, tie_broken}
 use Rattle.costs.specs.declared.line.Line.TheVariants.{Rate, NoTraffic, Refused}
 
@@ -16,8 +15,8 @@ unfolding words_line div of_int round
 third = (refl, refl)
 
 -- 7 cents for no octets are no traffic; a word of 2 ^ 53 is taken, and one above it is not, octets before cents
-ends : (words_line 0 7 ≡ NoTraffic) × ((words_line 0 (2 ^ 53) ≡ NoTraffic) × ((words_line 0 (2 ^ 53 + 1) ≡ Refused TooManyCents) × (words_line (2 ^ 53 + 1) (2 ^ 53 + 1) ≡ Refused TooManyOctets)))
-unfolding words_line refusal_of
+ends : (words_line 0 7 ≡ NoTraffic) × ((words_line 0 (2 ^ 53) ≡ NoTraffic) × ((words_line 0 (2 ^ 53 + 1) ≡ Refused 31) × (words_line (2 ^ 53 + 1) (2 ^ 53 + 1) ≡ Refused 30)))
+unfolding words_line
 ends = (refl, (refl, (refl, refl)))
 
 -- hops 0 to 5; hop 0 is no line

@@ -11,8 +11,7 @@ use Rattle.prefix.specs.Routes.{last_hop}
 use Rattle.octets.specs.Words.{word_count, most}
 use Rattle.ground.proofs.Cases.{by_eq}
 use Rattle.ground.proofs.Tests.{Decides, leb?, eqb?, and?, cond_on, cond_off, by_test}
-use Rattle.ground.specs.Refusals.{number}
-use Rattle.costs.specs.Lines.{words_code, line_code, refusal_of, line_by, line_or, line_of, LineSays}
+use Rattle.costs.specs.Lines.{words_code, line_code, line_by, line_or, line_of, LineSays}
 use Rattle.costs.specs.declared.line.Line.{Line}
 use Rattle.costs.specs.declared.line.Line.TheVariants.{Refused}
 use Rattle.costs.proofs.Rates.{rate_says}
@@ -33,14 +32,6 @@ words-code o c =
     (λ m. inl (cond_on _ _ (leb? o most) l ∙ cond_on _ _ (leb? c most) m, (l, m)))
     (λ n. inr (inr (inr (inr (cond_on _ _ (leb? o most) l ∙ cond_off _ _ (leb? c most) n))))))
     (λ n. inr (inr (inr (inl (cond_off _ _ (leb? o most) n)))))
-
--- `refusal_of` gives the refusal of that number
-pub number_of_refusal : (k : ℕ) → IsRefusal k → number (refusal_of k) ≡ k
-unfolding refusal_of
-number_of_refusal k (inl e) = rw e refl
-number_of_refusal k (inr (inl e)) = rw e refl
-number_of_refusal k (inr (inr (inl e))) = rw e refl
-number_of_refusal k (inr (inr (inr e))) = rw e refl
 
 above_0 : (k : ℕ) → IsRefusal k → 0 < k
 above_0 k (inl e) = omega arith
@@ -88,12 +79,12 @@ module _ (os cs : List ℕ) (hop : ℕ) where
   unfolding line_of
   line_0 e = ap line e
 
-  line_refused : (line_code os cs hop ≡ 0 → ⊥) → line_of os cs hop ≡ Refused (refusal_of (line_code os cs hop))
+  line_refused : (line_code os cs hop ≡ 0 → ⊥) → line_of os cs hop ≡ Refused (line_code os cs hop)
   unfolding line_of
   line_refused n = cond_off _ _ (eqb? (line_code os cs hop) 0) n
 
   -- Every line says what it means: a rate is that of the hop's own words, rounded once; "no traffic" is a hop of no octets; and a refusal
-  -- has the number that `line_code` gives.
+  -- is the number that `line_code` gives.
   pub line_says : LineSays os cs hop (line_of os cs hop)
   line_says = go line_code_lem
     where
@@ -104,7 +95,4 @@ module _ (os cs : List ℕ) (hop : ℕ) where
           (λ n. subst (LineSays os cs hop) (sym (line_0 k.0 ∙ cond_off _ _ (eqb? (get_or os hop 0) 0) n))
           (k.0, (omega arith, rate_says (get_or os hop 0) (get_or cs hop 0) (omega arith) k.1.0 k.1.1)))
       go (inr r) =
-          subst (LineSays os cs hop) (sym (line_refused (λ e. omega (arith, above_0 (line_code os cs hop) r)))) (
-            number_of_refusal (line_code os cs hop) r,
-            omega (arith, number_of_refusal (line_code os cs hop) r, above_0 (line_code os cs hop) r),
-          )
+          subst (LineSays os cs hop) (sym (line_refused (λ e. omega (arith, above_0 (line_code os cs hop) r)))) (refl, above_0 (line_code os cs hop) r)

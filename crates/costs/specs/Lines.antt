@@ -5,9 +5,6 @@ use Rattle.std.specs.Float.Ieee.{of_int, div, round, le}
 use Rattle.std.specs.Float.Ieee.Exact.{HasValue}
 use Rattle.std.specs.Float.Ieee.Positive.{positive}
 use Rattle.std.specs.Float.Ieee.Scale.{finite}
-use Rattle.ground.specs.declared.refusal.Refusal.{Refusal}
-use Rattle.ground.specs.declared.refusal.Refusal.TheVariants.{WrongSizes, WrongNumbers, TooManyOctets, TooManyCents}
-use Rattle.ground.specs.Refusals.{number}
 use Rattle.octets.specs.Words.{word_count, most}
 use Rattle.prefix.specs.Routes.{last_hop}
 use Rattle.costs.specs.declared.line.Line.{Line}
@@ -32,13 +29,9 @@ line_code octets cents hop =
 abbrev pub line_by : ℕ → ℕ → Line
 line_by octets cents = cond (eqb octets 0) NoTraffic (Rate (rate_of octets cents))
 
--- the refusal of a number that a line is refused with: 1, 2, 30 or 31 (`number_of_refusal`, proofs/Saying.antt)
-unfoldable pub refusal_of : ℕ → Refusal
-refusal_of code = cond (eqb code 1) WrongSizes (cond (eqb code 2) WrongNumbers (cond (eqb code 30) TooManyOctets TooManyCents))
-
 -- that, or the refusal
 abbrev pub line_or : ℕ → Line → Line
-line_or code line = cond (eqb code 0) line (Refused (refusal_of code))
+line_or code line = cond (eqb code 0) line (Refused code)
 
 unfoldable pub words_line : ℕ → ℕ → Line
 words_line octets cents = line_or (words_code octets cents) (line_by octets cents)
@@ -54,7 +47,7 @@ plus_zero = fin false 0 (pos 0)
 abbrev pub values_of : Line → Values
 values_of (Rate x) = record { code = 0; traffic = 1; rate = x }
 values_of NoTraffic = record { code = 0; traffic = 0; rate = plus_zero }
-values_of (Refused refusal) = record { code = number refusal; traffic = 0; rate = plus_zero }
+values_of (Refused k) = record { code = k; traffic = 0; rate = plus_zero }
 
 -- what is known of the rate x of a line with these octets and cents
 pub record RateSays (octets cents : ℕ) (x : Float) : Type 0 where
@@ -75,4 +68,4 @@ pub record RateSays (octets cents : ℕ) (x : Float) : Type 0 where
 abbrev pub LineSays : List ℕ → List ℕ → ℕ → Line → Type 0
 LineSays octets cents hop (Rate x) = (line_code octets cents hop ≡ 0) × ((0 < get_or octets hop 0) × RateSays (get_or octets hop 0) (get_or cents hop 0) x)
 LineSays octets cents hop NoTraffic = (line_code octets cents hop ≡ 0) × (get_or octets hop 0 ≡ 0)
-LineSays octets cents hop (Refused refusal) = (number refusal ≡ line_code octets cents hop) × (0 < number refusal)
+LineSays octets cents hop (Refused k) = (k ≡ line_code octets cents hop) × (0 < k)

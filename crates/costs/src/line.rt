@@ -13,7 +13,8 @@ pub enum Line {
     // Cents for an octet.
     Rate(f64),
     NoTraffic,
-    Refused(Refusal),
+    // The number of a refusal.
+    Refused(u32),
 }
 
 // A line in numbers, as C gets it, which has no enum with values: traffic is 1 where the rate holds; 0 with code 0 is "no traffic".
@@ -34,15 +35,15 @@ pub(crate) fn rate(octets: u64, cents: u64) -> f64
 }
 
 // The line of a hop's two words.
-#[tactic(auto, unfolding(crate::specs::Lines::words_line, crate::specs::Lines::refusal_of))]
+#[tactic(auto, unfolding(crate::specs::Lines::words_line))]
 fn line_of(octets: u64, cents: u64) -> Line
     ensures { result ≡ words_line octets cents }
 {
     if Words::MOST < octets {
-        return Line::Refused(Refusal::TooManyOctets);
+        return Line::Refused(Refusal::TooManyOctets.into());
     }
     if Words::MOST < cents {
-        return Line::Refused(Refusal::TooManyCents);
+        return Line::Refused(Refusal::TooManyCents.into());
     }
     if octets == 0 {
         return Line::NoTraffic;
@@ -51,15 +52,15 @@ fn line_of(octets: u64, cents: u64) -> Line
 }
 
 // The line of a hop, or refusal 1, 2, 30 or 31.
-#[tactic(auto, unfolding(crate::specs::Lines::line_of, crate::specs::Lines::line_code, crate::specs::Lines::words_line, crate::specs::Lines::refusal_of))]
+#[tactic(auto, unfolding(crate::specs::Lines::line_of, crate::specs::Lines::line_code, crate::specs::Lines::words_line))]
 pub fn cost_line(octets: &[u64], cents: &[u64], hop: u32) -> Line
     ensures { result ≡ line_of octets.now cents.now hop }
 {
     if octets.len() != Words::COUNT || cents.len() != Words::COUNT {
-        return Line::Refused(Refusal::WrongSizes);
+        return Line::Refused(Refusal::WrongSizes.into());
     }
     if !(1..=LAST_HOP).contains(&hop) {
-        return Line::Refused(Refusal::WrongNumbers);
+        return Line::Refused(Refusal::WrongNumbers.into());
     }
     line_of(octets[hop as usize], cents[hop as usize])
 }
@@ -72,7 +73,7 @@ impl From<Line> for Values {
         let (code, traffic, rate) = match line {
             Line::Rate(rate) => (0, 1, rate),
             Line::NoTraffic => (0, 0, 0.0),
-            Line::Refused(refusal) => (refusal.into(), 0, 0.0),
+            Line::Refused(code) => (code, 0, 0.0),
         };
         Values {
             code,
