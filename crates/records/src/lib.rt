@@ -23,9 +23,9 @@ impl TryFrom<u8> for Kind {
 
     fn try_from(byte: u8) -> Result<Kind, Refusal> {
         match byte {
-            1 => Ok(Kind::Announce),
-            2 => Ok(Kind::Withdraw),
-            3 => Ok(Kind::ReHome),
+            Update::ANNOUNCE => Ok(Kind::Announce),
+            Update::WITHDRAW => Ok(Kind::Withdraw),
+            Update::RE_HOME => Ok(Kind::ReHome),
             _ => Err(Refusal::WrongKind),
         }
     }
@@ -50,6 +50,12 @@ impl Update {
     pub const LENGTH_FIELD: u16 = 13;
 
     pub const VERSION: u8 = 1;
+
+    pub const ANNOUNCE: u8 = Kind::Announce as u8;
+
+    pub const WITHDRAW: u8 = Kind::Withdraw as u8;
+
+    pub const RE_HOME: u8 = Kind::ReHome as u8;
 }
 
 // What reading gives, as C has it: 0 and the update, or the number of a refusal and an all-zero update.
