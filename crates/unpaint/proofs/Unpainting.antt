@@ -137,10 +137,22 @@ blocks_passed l rs {t} {T} {first} {long} {from} {mid} {to} {r} p low high pass 
 pub each_more : (P : ℕ → Type 0) {from i : ℕ} → ((k : ℕ) → from ≤ k → k < i → P k) → P i → (k : ℕ) → from ≤ k → k < i + 1 → P k
 each_more P {i = i} f p k low high = by_lt k i (f k low) (λ ge. let e : i ≡ k = omega arith in subst P e p)
 
--- no pointer is among the cells from..end, by themselves
+-- what the cells from..end have, by themselves, those from..to have where they stand
+each_part : (P : ℕ → Type 0) (cells : List ℕ) {from to end : ℕ}
+    → ((k : ℕ) → k < length (between from end cells) → P (get_or (between from end cells) k 0)) → to ≤ end → end ≤ length cells
+    → (k : ℕ) → from ≤ k → k < to → P (get_or cells k 0)
+each_part P cells {from} {to} {end} part most inside k low high =
+    let at : from + (k - from) ≡ k = omega arith in
+    let here = get_or-between cells from end (k - from) 0 (omega arith) in
+    subst P (here ∙ ap (λ (j : ℕ). get_or cells j 0) at) (part (k - from) (omega (arith, length-between cells from end inside)))
+
+-- no pointer is among the cells from..end
 pub closed_part : (first : List ℕ) {from to end : ℕ} → All (λ cell. cell < pointer_bit) (between from end first) → to ≤ end → end ≤ length first
     → Closed from to first
-closed_part first {from} {to} {end} all most inside k low high =
-    let at : from + (k - from) ≡ k = omega arith in
-    let here = get_or-between first from end (k - from) 0 (omega arith) in
-    rw (here, at) at (all (k - from) 0 (omega (arith, length-between first from end inside)))
+closed_part first all = each_part (λ cell. cell < pointer_bit) first (λ k. all k 0)
+
+-- the cells up to i pass, and so do those from there to the end, by themselves
+pub pass_more : (test : ℕ → Bool) (cells : List ℕ) {from i end : ℕ} → Pass test from i cells
+    → Pass test 0 (length (between i end cells)) (between i end cells) → end ≤ length cells → Pass test from end cells
+pass_more test cells {i = i} {end = end} before part inside k low high =
+    by_lt k i (before k low) (λ ge. each_part (λ cell. test cell ≡ true) cells (λ j. part j (omega arith)) (le_refl end) inside k ge high)

@@ -24,6 +24,9 @@ use std::ops::Range;
 use tables::change::change_run;
 use tables::place;
 
+// How many cells are tested at once.
+const STRIDE: usize = 16;
+
 // Whether a withdrawal of a prefix of this length leaves the cell.
 #[tactic(auto, unfolding(crate::specs::inner::Unpaint::stays))]
 fn stays(cell: u32, length: u32) -> bool
@@ -41,9 +44,21 @@ fn replaced(old: u32, new: u32, length: u32) -> u32
     if stays(old, length) { old } else { new }
 }
 
-// Passes over those of the cells from..to that pass the test, up to the first that does not. It stays a call, so that its loop counts
-// nothing but cells, and a loop of its own: as `position` over a slice, inlined into its callers, withdrawals took 2.4 to 2.9 of plain C's
-// time where they take 1.8.
+// Whether each of the cells passes the test. It looks at each, so that nothing waits for what was read, and several are tested at once.
+fn all_pass<F: Fn(u32) -> bool>(cells: &[u32], passes: F) -> bool
+    requires { F.IsAlwaysCallable passes }
+    ensures { (test : ℕ → Bool) → ((x : ℕ) (y : Bool) → F.post passes x y → y ≡ test x)
+        → result ≡ true → Pass test 0 (length cells.now) cells.now }
+{
+    let mut all = true;
+    for cell in cells {
+        all = all & passes(*cell);
+    }
+    all
+}
+
+// Passes over those of the cells from..to that pass the test, up to the first that does not: by strides while each in one passes, and then
+// one by one. It stays a call, so that its loops count nothing but cells.
 #[inline(never)]
 fn pass_over<F: Fn(u32) -> bool>(cells: &[u32], from: usize, to: usize, passes: F) -> Option<usize>
     requires inside { Inside from to cells.now }
@@ -52,7 +67,12 @@ fn pass_over<F: Fn(u32) -> bool>(cells: &[u32], from: usize, to: usize, passes: 
     ensures passed { (test : ℕ → Bool) → ((x : ℕ) (y : Bool) → F.post passes x y → y ≡ test x)
         → MatchOption result (Pass test from to cells.now) (λ at. Pass test from at cells.now) }
 {
-    for i in from..to {
+    let mut next = from;
+    // No `for`: it ends at the first stride in which a cell does not pass.
+    while STRIDE <= to - next && all_pass(&cells[next..next + STRIDE], &passes) {
+        next += STRIDE;
+    }
+    for i in next..to {
         if !passes(cells[i]) {
             return Some(i);
         }
@@ -65,7 +85,7 @@ fn pass_over<F: Fn(u32) -> bool>(cells: &[u32], from: usize, to: usize, passes: 
 fn passed(cell: u32, length: u32) -> bool
     ensures { result ≡ passed length cell }
 {
-    !Cell::is_pointer(cell) && stays(cell, length)
+    !Cell::is_pointer(cell) & stays(cell, length)
 }
 
 // Whether none of these first cells is a pointer. It looks at each, so that nothing waits for what was read.
