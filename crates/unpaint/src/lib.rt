@@ -24,7 +24,7 @@ use std::ops::Range;
 use tables::change::change_run;
 use tables::place;
 
-// How many cells are tested at once.
+// So many cells are passed over at once. With 64 a withdrawal took up to 1.13 of its time where runs of one cell are passed over.
 const STRIDE: usize = 16;
 
 // Whether a withdrawal of a prefix of this length leaves the cell.
@@ -44,7 +44,7 @@ fn replaced(old: u32, new: u32, length: u32) -> u32
     if stays(old, length) { old } else { new }
 }
 
-// Whether each of the cells passes the test. It looks at each, so that nothing waits for what was read, and several are tested at once.
+// Whether each of the cells passes the test. It looks at each, so that nothing waits for what was read and several are tested at once.
 fn all_pass<F: Fn(u32) -> bool>(cells: &[u32], passes: F) -> bool
     requires { F.IsAlwaysCallable passes }
     ensures { (test : ℕ → Bool) → ((x : ℕ) (y : Bool) → F.post passes x y → y ≡ test x)
@@ -57,8 +57,9 @@ fn all_pass<F: Fn(u32) -> bool>(cells: &[u32], passes: F) -> bool
     all
 }
 
-// Passes over those of the cells from..to that pass the test, up to the first that does not: by strides while each in one passes, and then
-// one by one. It stays a call, so that its loops count nothing but cells.
+// Passes over those of the cells from..to that pass the test, up to the first that does not: by strides of which each cell passes, and then
+// one by one. It stays a call, so that its loops count nothing but cells. One by one alone, a withdrawal took 1.5 to 2.1 times as long where
+// two thirds of the cells or all are passed over.
 #[inline(never)]
 fn pass_over<F: Fn(u32) -> bool>(cells: &[u32], from: usize, to: usize, passes: F) -> Option<usize>
     requires inside { Inside from to cells.now }
@@ -80,7 +81,7 @@ fn pass_over<F: Fn(u32) -> bool>(cells: &[u32], from: usize, to: usize, passes: 
     None
 }
 
-// Whether the block of this first cell is passed over: it is no pointer, and stays.
+// Whether the block of this first cell is passed over: it is no pointer, and stays. Both are asked of each cell, so that a stride has no jump.
 #[tactic(auto, unfolding(crate::specs::inner::Unpaint::passed))]
 fn passed(cell: u32, length: u32) -> bool
     ensures { result ≡ passed length cell }
