@@ -10,7 +10,7 @@ ghost use Rattle.bulk.specs.inner.Passes.{place_of, fetched_of, verdict_or_marke
 
 use cells::cell::Cell;
 use ground::refusal::Refusal;
-use lookup::look::{Packed, says, standing, verdict};
+use lookup::look::{Packed, says, standing_in_cells, verdict};
 use prefix::Prefix;
 use prefix::geometry::{Block, block_from};
 
@@ -88,7 +88,7 @@ pub fn look_up_all(
 {
     let base = territory.address;
     // The territory's own address is in it: what can fail is what is lent.
-    standing(first.len(), long.len(), territory, base)?;
+    standing_in_cells(first.len(), long.len(), territory, base)?;
     if addresses.len() != answers.len() {
         return Err(Refusal::WrongSizes);
     }

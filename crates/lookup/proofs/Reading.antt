@@ -3,24 +3,24 @@ use mathlib.Core.Path.{◌≡◌, refl, sym, ap, ap₂, ◌∙◌}
 use mathlib.Core.Bool.{Bool, true, false, cond}
 use mathlib.Core.List.{List, map}
 use Rattle.std.proofs.lemmas.List.{length-map, get_or-map}
-use Prim.Native.Nat.{ℕ, ◌%◌, ◌^◌, ◌≤◌, ◌<◌}
+use Prim.Native.Nat.{ℕ, ◌*◌, ◌%◌, ◌^◌, ◌≤◌, ◌<◌}
 use native.Mathlib.Omega.{arith}
 use lib.Dec.{ltb}
 use lib.ListN.{length, get_or}
-use Rattle.ground.proofs.Tests.{Decides, holds, fails, cond_on, says, same_test}
+use Rattle.ground.proofs.Tests.{Decides, holds, fails, leb?, eqb?, and?, iff?, cond_on, says, same_test}
 use Rattle.cells.proofs.Lending.{LentToRead, lent_to_read?}
 use Rattle.prefix.specs.declared.Prefix.{Prefix}
 use Rattle.prefix.specs.Prefixes.{contains, Contains}
-use Rattle.prefix.specs.Geometry.{block_size, is_territory, blocks, block_of, block_from}
+use Rattle.prefix.specs.Geometry.{Territory, block_size, is_territory, blocks, block_of, block_from}
 use Rattle.prefix.proofs.Prefixes.{contains?, in_range_lem}
 use Rattle.prefix.proofs.Spans.{is_territory?, block_inside}
 use Rattle.prefix.proofs.Inside.{inside?}
-use Rattle.cells.specs.Memory.{lent_to_read}
+use Rattle.cells.specs.Memory.{most_segments, lent_to_read}
 use Rattle.lookup.specs.Lookup.{refused, says_of, look_up}
 use Rattle.ground.specs.declared.refusal.Refusal.{Refusal}
 use Rattle.ground.specs.Refusals.{number as refusal_number}
 use Rattle.ground.proofs.Refusals.{number_some}
-use Rattle.lookup.specs.inner.Standing.{standing_of}
+use Rattle.lookup.specs.inner.Standing.{lent_by, standing_by, standing_of}
 
 -- a call may read: what is lent is right, and the address is in the territory
 pub record Stands (first long : ℕ) (t : Prefix) (a : ℕ) : Type 0 where
@@ -42,6 +42,42 @@ inside_test t a h fits small = same_test (contains? t a) (inside? (says (is_terr
 -- the number of the refusal, by the two tests
 abbrev number : Bool → Bool → ℕ
 number lent inside = cond lent (cond inside 0 3) 1
+
+-- what `lent_by` decides
+record LentBy (unit first long : ℕ) (t : Prefix) : Type 0 where
+  pub territory : Territory t
+  pub parts_a_block : first ≡ unit * blocks t
+  pub whole_segments : long % (unit * block_size) ≡ 0
+  pub not_too_many : long ≤ unit * (block_size * most_segments)
+
+lent_by? : (unit first long : ℕ) (t : Prefix) → Decides (LentBy unit first long t) (lent_by unit first long t)
+unfolding lent_by
+lent_by? unit first long t =
+    iff?
+    (and? (and? (and? (is_territory? t) (eqb? first (unit * blocks t))) (eqb? (long % (unit * block_size)) 0)) (leb? long (unit * (block_size * most_segments))))
+    (λ h. record { territory = h.0.0.0; parts_a_block = h.0.0.1; whole_segments = h.0.1; not_too_many = h.1 })
+    (λ l. (((l.territory, l.parts_a_block), l.whole_segments), l.not_too_many))
+
+-- counted in cells, this is what is lent to read
+pub in_cells : (first long : ℕ) (t : Prefix) (a : ℕ) → standing_by 1 first long t a ≡ standing_of first long t a
+unfolding standing_by standing_of
+in_cells first long t a =
+    ap (λ (x : Bool). number x (contains t a))
+    (same_test
+    (iff? (lent_by? 1 first long t)
+    (λ l. record {
+      territory = l.territory;
+      a_cell_a_block = omega (arith, l.parts_a_block);
+      whole_segments = omega (arith, l.whole_segments);
+      not_too_many = omega (arith, l.not_too_many);
+    })
+    (λ l. record {
+      territory = l.territory;
+      parts_a_block = omega (arith, l.a_cell_a_block);
+      whole_segments = omega (arith, l.whole_segments);
+      not_too_many = omega (arith, l.not_too_many);
+    }))
+    (lent_to_read? first long t))
 
 pub stands : {first long : ℕ} {t : Prefix} {a : ℕ} → standing_of first long t a ≡ 0 → Stands first long t a
 unfolding standing_of

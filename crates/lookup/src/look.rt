@@ -1,10 +1,10 @@
 // Look up: the answer to an address, from the first and the long table.
-ghost use Rattle.std.specs.Prelude.{◌≡◌, ℕ, ◌<◌, ◌^◌, map};
+ghost use Rattle.std.specs.Prelude.{◌≡◌, ℕ, ◌<◌, ◌≤◌, ◌^◌, map};
 ghost use Rattle.std.specs.Int.{w32, from_le_bytes};
 ghost use Rattle.ground.specs.Refusals.{number, code_of};
 ghost use Rattle.prefix.specs.Geometry.{block_size};
 ghost use Rattle.lookup.specs.Lookup.{refused, found, packed, unpacked_of, direct_or_damage, verdict_of, says_of, look_up, answer_of};
-ghost use Rattle.lookup.specs.inner.Standing.{standing_of};
+ghost use Rattle.lookup.specs.inner.Standing.{standing_by, standing_of};
 ghost use Rattle.lookup.specs.inner.Outcomes.{outcome_of};
 
 use cells::cell::Cell;
@@ -110,22 +110,43 @@ impl Packed {
     }
 }
 
-// Refuses what is lent wrongly, and an address that is not in the territory. The tables are counted in cells.
-#[tactic(auto, using(crate::proofs::Reading::inside_test), unfolding(crate::specs::inner::Standing::standing_of, cells::specs::Memory::lent_to_read, prefix::specs::Geometry::is_territory))]
-pub fn standing(first: usize, long: usize, territory: Prefix, address: u32) -> Result<(), Refusal>
-    ensures { code_of result ≡ standing_of first long territory address }
+// Refuses what is lent wrongly, and an address that is not in the territory. The tables are counted in cells, unit 1, or in bytes, unit 4: a
+// table that is no whole number of cells has no right number of bytes.
+#[tactic(auto, using(crate::proofs::Reading::inside_test), unfolding(crate::specs::inner::Standing::standing_by, crate::specs::inner::Standing::lent_by, prefix::specs::Geometry::is_territory))]
+pub fn standing(
+    unit: usize,
+    first: usize,
+    long: usize,
+    territory: Prefix,
+    address: u32,
+) -> Result<(), Refusal>
+    requires { (0 < unit) × (unit ≤ 4) }
+    ensures { code_of result ≡ standing_by unit first long territory address }
 {
-    if !territory.is_territory() || Most::LONG < long {
+    if !territory.is_territory() || unit * Most::LONG < long {
         return Err(Refusal::WrongSizes);
     }
     let blocks = blocks_of(territory.length);
-    if first != blocks || long % Block::CELLS != 0 {
+    if first != unit * blocks || long % (unit * Block::CELLS) != 0 {
         return Err(Refusal::WrongSizes);
     }
     if blocks <= block_from(territory.address, address) as usize {
         return Err(Refusal::Outside);
     }
     Ok(())
+}
+
+// The same of tables that are counted in cells, as look up reads them.
+#[tactic(auto, using(crate::proofs::Reading::in_cells))]
+pub fn standing_in_cells(
+    first: usize,
+    long: usize,
+    territory: Prefix,
+    address: u32,
+) -> Result<(), Refusal>
+    ensures { code_of result ≡ standing_of first long territory address }
+{
+    standing(1, first, long, territory, address)
 }
 
 // The length and the hop of a direct cell, or refusal 4, as one number.
@@ -174,7 +195,7 @@ pub fn says<W: Word>(long: &[W], low: usize, cell: u32) -> u32
 pub fn answer<W: Word>(first: &[W], long: &[W], territory: Prefix, address: u32) -> u32
     ensures { result ≡ packed (look_up (map W.spelt first.now) (map W.spelt long.now) territory address) }
 {
-    if let Err(refusal) = standing(first.len(), long.len(), territory, address) {
+    if let Err(refusal) = standing_in_cells(first.len(), long.len(), territory, address) {
         return Packed::refused(refusal);
     }
     let cell = first[block_of(territory, address)].word();

@@ -3,7 +3,7 @@ ghost use Rattle.std.specs.Prelude.{◌≡◌};
 ghost use Rattle.ground.specs.Refusals.{code_of};
 ghost use Rattle.lookup.specs.Show.{show_code, seen, shown};
 
-use crate::look::standing;
+use crate::look::standing_in_cells;
 use cells::cell::Cell;
 use ground::refusal::Refusal;
 use prefix::Prefix;
@@ -19,7 +19,7 @@ pub fn show_code(
 ) -> Result<(), Refusal>
     ensures { code_of result ≡ show_code first.now long.now territory address }
 {
-    standing(first.len(), long.len(), territory, address)?;
+    standing_in_cells(first.len(), long.len(), territory, address)?;
     let cell = first[block_of(territory, address)];
     if Cell::is_pointer(cell) && long.len() / Block::CELLS <= Cell::segment(cell) {
         return Err(Refusal::Damage);
