@@ -1,6 +1,6 @@
 -- Pieces of the input, one after another, and the last line of a history. Assumes nothing.
 use Rattle.std.proofs.Common.{◌≡◌, refl, sym, ap, subst, ◌∙◌, ℕ, ◌≤◌, arith}
-use Rattle.std.proofs.Common.{[], ◌++◌, length-append, Result, Ok, Err, IsErr, IfOk, IsOkAnd, MatchResult}
+use Rattle.std.proofs.Common.{[], ◌++◌, length-append, Result, Ok, Err, IsErr, IfOk}
 use Rattle.ground.specs.declared.refusal.Refusal.{Refusal}
 use Rattle.ground.specs.Refusals.{code_of}
 use Rattle.prefix.specs.Prefixes.{Contains}
@@ -10,7 +10,7 @@ use Rattle.history.specs.History.{start, memory, live, IsAnswer}
 use Rattle.updates.specs.declared.Report.{Report}
 use Rattle.updates.specs.Calls.{clear, reported, Outcome}
 use Rattle.history.proofs.Demand2.{demand_2}
-use Rattle.stream.specs.Stream.{Stream, Step, stream_of, number_of, lent_after, used}
+use Rattle.stream.specs.Stream.{Stream, stream_of, number_of, lent_after, used}
 use Rattle.stream.proofs.Streams.{stream_none, stream_joined, lent_after_joined, memory-goes_on}
 use Rattle.stream.proofs.Counting.{live_counted}
 use Rattle.collector.specs.declared.failures.Failed.{Failed}
@@ -82,23 +82,27 @@ module _ {m k n : Lent} {o : Report} (lent : IsLent site m) (cleared : reported 
       H.lent ∙ ap (λ (x : Outcome). lent_after site x.lent (stream_of H.bytes 0).updates) cleared
       ∙ sym (memory-goes_on site m start (stream_of H.bytes 0).updates)
 
-  -- where nothing failed there is a number, that of the stream's end; the counts are of what the memory holds, failed or not
-  pub last_is : {r : Ended} (end : Result (Result (Unit {0}) Refusal) Failed) → Handed 0 k (ended_by end) n
-      → MatchResult end (λ e. IsOkAnd r.code (λ number. number ≡ code_of e)) (λ failed. r.code ≡ Err failed)
-      → r.prefixes ≡ used n.rules → r.segments ≡ used n.tables.owners → LastIs m r n
-  last_is {r} end H g e f = record {
+  -- the counts are of what the memory holds, failed or not
+  last_is : {r : Ended} {next : Result Next Failed} {code : Result ℕ Failed} (H : Handed 0 k next n)
+      → IfOk code (λ number. number ≡ number_of (stream_of H.bytes 0).step)
+      → r ≡ record { code = code; prefixes = used n.rules; segments = used n.tables.owners } → LastIs m r n
+  last_is H g e = subst (λ (x : Ended). LastIs m x n) (sym e) (record {
     bytes = H.bytes;
     lent = memory_is H;
-    number = numbered end r.code (stream_of H.bytes 0).step H.says g;
-    prefixes = e ∙ ap (λ (x : Lent). used x.rules) (memory_is H) ∙ live_counted site m lent (history_of H.bytes);
-    segments = f ∙ ap (λ (x : Lent). used x.tables.owners) (memory_is H);
-  }
-    where
-      numbered : (end : Result (Result (Unit {0}) Refusal) Failed) (code : Result ℕ Failed) (s : Step) → Agrees (ended_by end) s H.bytes
-          → MatchResult end (λ e. IsOkAnd code (λ number. number ≡ code_of e)) (λ failed. code ≡ Err failed) → IfOk code (λ number. number ≡ number_of s)
-      numbered (Ok e) (Ok number) s w g = g ∙ w
-      numbered (Ok e) (Err failed) s w g = tt
-      numbered (Err failed) code s w g = subst (λ (x : Result ℕ Failed). IfOk x (λ number. number ≡ number_of s)) (sym g) tt
+    number = g;
+    prefixes = ap (λ (x : Lent). used x.rules) (memory_is H) ∙ live_counted site m lent (history_of H.bytes);
+    segments = ap (λ (x : Lent). used x.tables.owners) (memory_is H);
+  })
+
+  -- the stream ended, and the number is that of its end
+  pub ended_with : {r : Ended} {end : Result (Unit {0}) Refusal} {number : ℕ} → Handed 0 k (Ok (Ends end)) n → number ≡ code_of end
+      → r ≡ record { code = Ok number; prefixes = used n.rules; segments = used n.tables.owners } → LastIs m r n
+  ended_with H g e = last_is H (g ∙ H.says) e
+
+  -- a read or a write failed, and there is no number
+  pub ended_failed : {r : Ended} {failed : Failed} → Handed 0 k (Err failed) n
+      → r ≡ record { code = Err failed; prefixes = used n.rules; segments = used n.tables.owners } → LastIs m r n
+  ended_failed H e = last_is H tt e
 
 -- Demand 2 of the program's tables: whatever was handed over, look up answers every address of the territory by the longest match.
 pub tables_answer : (m : Lent) {n : Lent} {r : Ended} → IsLent site m → (R : LastIs m r n) → (a : ℕ) → Contains site a

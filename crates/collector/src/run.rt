@@ -1,6 +1,7 @@
 // The loop of the program: bytes are read into a buffer, the records in it are taken, and their lines are printed.
 ghost use Rattle.std.specs.Prelude.{◌≡◌};
 ghost use Rattle.cells.specs.Memory.{IsLent, lent_of};
+ghost use Rattle.stream.specs.Stream.{used};
 ghost use Rattle.collector.specs.Running.{site, count_of, next_of, ended_by, Handed, LastIs};
 
 use crate::failures::Failed;
@@ -109,6 +110,17 @@ pub struct Ended {
     pub segments: u64,
 }
 
+// That, with the live prefixes and the open segments counted.
+fn counted(code: Result<u32, Failed>, owners: &[u32], rules: &[u64]) -> Ended
+    ensures { result ≡ record { code = code; prefixes = used rules.now; segments = used owners.now } }
+{
+    Ended {
+        code,
+        prefixes: counts::live_prefixes(rules),
+        segments: counts::open_segments(owners),
+    }
+}
+
 // From cleared memory, the whole stream, and the numbers of the last line.
 pub fn run<R: Input + Print + Eprint + Clock>(
     rt: &R,
@@ -121,10 +133,8 @@ pub fn run<R: Input + Print + Eprint + Clock>(
     ensures { LastIs (lent_of first.old long.old owners.old rules.old) result (lent_of first.new long.new owners.new rules.new) }
 {
     let _ = updates::clear(first, long, owners, rules, TERRITORY);
-    let end = take_stream(rt, first, long, owners, rules);
-    Ended {
-        code: end.map(refusal::code),
-        prefixes: counts::live_prefixes(rules),
-        segments: counts::open_segments(owners),
+    match take_stream(rt, first, long, owners, rules) {
+        Ok(end) => counted(Ok(refusal::code(end)), owners, rules),
+        Err(failed) => counted(Err(failed), owners, rules),
     }
 }

@@ -2,7 +2,7 @@
 #![tactic(auto)]
 
 ghost use Rattle.ground.specs.Refusals.{code_of};
-ghost use Rattle.std.specs.Prelude.{◌≡◌, length};
+ghost use Rattle.std.specs.Prelude.{◌≡◌, ◌≤◌, drop, length};
 ghost use Rattle.prefix.specs.Routes.{last_hop};
 ghost use Rattle.sheet.specs.Sheet.{Hops, within, SheetIs};
 
@@ -15,10 +15,18 @@ use octets::words::Words;
 use prefix::LAST_HOP;
 
 // Whether no word has passed 2^53.
-fn within(words: &[u64]) -> bool
+fn all_within(words: &[u64]) -> bool
     ensures { result ≡ within words.now }
 {
     words.iter().all(|word| *word <= Words::MOST)
+}
+
+// Whether no word from an index on has.
+fn within(words: &[u64], from: usize) -> bool
+    requires { from ≤ length words.now }
+    ensures { result ≡ within (drop from words.now) }
+{
+    all_within(&words[from..])
 }
 
 // hops[i] = i + 1
@@ -40,11 +48,11 @@ pub fn cost_sheet(octets: &[u64], cents: &[u64], hops: &mut [u32]) -> Result<(),
     if octets.len() != Words::COUNT || cents.len() != Words::COUNT || hops.len() != Words::HOPS {
         return Err(Refusal::WrongSizes);
     }
-    if !within(octets) {
+    if !within(octets, 0) {
         return Err(Refusal::TooManyOctets);
     }
     // Word 0 of the cents is no hop's, and is not read.
-    if !within(&cents[1..]) {
+    if !within(cents, 1) {
         return Err(Refusal::TooManyCents);
     }
     let ledger = Ledger { octets, cents };

@@ -1,12 +1,10 @@
 -- `cost_sheet` meets its contract: what the tests let pass is sound, and is sorted. Assumes nothing.
 use native.Mathlib.Omega.{arith}
-use borrow.Author.Rules.{part_to_end}
 use Rattle.ground.proofs.Tests.{if_so}
-use Rattle.sheet.specs.Sheet.{within}
 use Rattle.sheet.proofs.Counts.{all_hops, hops_kept, hops_permuted}
 use Rattle.sheet.proofs.Refusing.{Tested, within?, filled_0, tested_sound}
 use Rattle.sheet.proofs.Sorted.{ranked}
-use Rattle.std.proofs.Common.{ap, not, ◌∙◌}
+use Rattle.std.proofs.Common.{ap, not}
 use Rattle.sheet.proofs.cost_sheet.Goals.{Else-not-within-2}
 use Rattle.sheet.proofs.cost_sheet.Goals as goal
 
@@ -17,7 +15,7 @@ tested c =
     record {
       sizes = ((omega arith, omega arith), omega arith);
       octets = if_so (within? 0 s.octets.now) c.within.ensures (ap not c.if-not-within.false);
-      cents = if_so (within? 1 s.cents.now) (c.within-2.ensures ∙ ap within (part_to_end s.cents.now 1)) (ap not c.if-not-within-2.false);
+      cents = if_so (within? 1 s.cents.now) c.within-2.ensures (ap not c.if-not-within-2.false);
     }
 
 pub invariant_of-ledger : goal.invariant_of-ledger

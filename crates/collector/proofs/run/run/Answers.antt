@@ -1,9 +1,9 @@
 -- `run` meets its contract: clear, then what was handed over, then the counts, where something failed as well. Assumes nothing.
-use Rattle.std.proofs.Common.{arith}
-use Rattle.collector.proofs.Running.{last_is}
+use Rattle.collector.proofs.Running.{ended_with, ended_failed}
 use Rattle.collector.proofs.run.run.Goals as goal
 
-pub returns : goal.returns
-returns g c =
-    last_is c.requires c.clear.ensures c.take_stream-end.result c.take_stream-end.ensures c.map.ensures.cases
-    (omega (arith, c.live_prefixes.ensures)) (omega (arith, c.open_segments.ensures))
+pub returns-in-Ok : goal.returns-in-Ok
+returns-in-Ok g c = ended_with c.requires c.clear.ensures c.in-Ok.ensures c.code.ensures c.counted.ensures
+
+pub returns-in-Err : goal.returns-in-Err
+returns-in-Err g c = ended_failed c.requires c.clear.ensures c.in-Err.ensures c.counted-in-Err.ensures

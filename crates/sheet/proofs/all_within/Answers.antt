@@ -1,11 +1,11 @@
--- `within` meets its contract. Assumes nothing.
+-- `all_within` meets its contract. Assumes nothing.
 use Rattle.std.proofs.Common.{rules, leb, sym, ◌∙◌}
 use borrow.Author.Tests.{tests}
 use Rattle.std.proofs.lemmas.Iterator.{YieldsList-from_slice}
 use Rattle.std.proofs.lemmas.Iterator.Search.{all_from_yields_List}
 use Rattle.octets.specs.Words.{most}
 use Rattle.sheet.proofs.Refusing.{within_all}
-use Rattle.sheet.proofs.within.Goals as goal
+use Rattle.sheet.proofs.all_within.Goals as goal
 
 pub returns : goal.returns
 returns c =
