@@ -1,10 +1,10 @@
 // Standard output: a header, a line for each record, and a last line. A write that fails is said.
-ghost use Rattle.std.specs.Prelude.{◌≤◌, length, Some, IfOk};
+ghost use Rattle.std.specs.Prelude.{◌≡◌, ◌≤◌, ◌++◌, length, take, Some, IfOk};
 ghost use Rattle.collector.specs.Running.{text_of};
 
 use crate::failures::{self, Failed};
 use std::fmt;
-use std::fmt::{Display, InlineText};
+use std::fmt::{Display, Write as _};
 use std::io::{ErrorKind, Write, writer};
 use std::rt::Clock;
 use stream::Line;
@@ -56,10 +56,39 @@ fn write_all<R: Print + Eprint + Clock>(rt: &R, text: &[u8]) -> Result<(), Faile
     Err(Failed)
 }
 
-// Prints a line: it is put together first, and then written. The longest is the last one, of 67 bytes.
+// A line that is put together: the first `len` of the bytes. The longest is the last one, of 67 bytes.
+#[derive(Clone, Copy)]
+struct Text {
+    bytes: [u8; 96],
+    len: usize,
+    ghost within: { len ≤ 96 },
+}
+
+impl fmt::Write for Text {
+    ghost write_str_gives = { λ text part after. take after.len after.bytes ≡ take text.len text.bytes ++ part };
+
+    fn write_str(&mut self, part: &str) -> fmt::Result {
+        let part = part.as_bytes();
+        if self.bytes.len() - self.len < part.len() {
+            return Err(fmt::Error);
+        }
+        let end = self.len + part.len();
+        self.bytes[self.len..end].copy_from_slice(part);
+        self.len = end;
+        Ok(())
+    }
+}
+
+// Prints a line: it is put together first, and then written.
 pub fn print<R: Print + Eprint + Clock, L: Display + Drop>(rt: &R, line: L) -> Result<(), Failed> {
-    let text = InlineText::<96>::of(line);
-    write_all(rt, text.as_str().as_bytes())
+    let mut text = Text {
+        bytes: [0; 96],
+        len: 0,
+    };
+    match write!(text, "{line}") {
+        Ok(()) => write_all(rt, &text.bytes[..text.len]),
+        Err(_) => Err(Failed),
+    }
 }
 
 pub fn print_lines<R: Print + Eprint + Clock>(rt: &R, lines: &[Line]) -> Result<(), Failed> {
