@@ -23,10 +23,12 @@ fn all_within(words: &[u64]) -> bool
 
 // Whether no word from an index on has.
 fn within(words: &[u64], from: usize) -> bool
-    requires { from ≤ length words.now }
     ensures { result ≡ within (drop from words.now) }
 {
-    all_within(&words[from..])
+    match words.get(from..) {
+        Some(rest) => all_within(rest),
+        None => true,
+    }
 }
 
 // hops[i] = i + 1
