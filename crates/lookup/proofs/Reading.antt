@@ -40,17 +40,17 @@ pub inside_test : (t : Prefix) (a : ℕ) → is_territory t ≡ true → t.addre
 inside_test t a h fits small = same_test (contains? t a) (inside? (says (is_territory? t) h) fits small (blocks t) refl)
 
 -- the number of the refusal, by the two tests
-abbrev number : Bool → Bool → ℕ
+abbrev pub number : Bool → Bool → ℕ
 number lent inside = cond lent (cond inside 0 3) 1
 
 -- what `lent_by` decides
-record LentBy (unit first long : ℕ) (t : Prefix) : Type 0 where
+pub record LentBy (unit first long : ℕ) (t : Prefix) : Type 0 where
   pub territory : Territory t
   pub parts_a_block : first ≡ unit * blocks t
   pub whole_segments : long % (unit * block_size) ≡ 0
   pub not_too_many : long ≤ unit * (block_size * most_segments)
 
-lent_by? : (unit first long : ℕ) (t : Prefix) → Decides (LentBy unit first long t) (lent_by unit first long t)
+pub lent_by? : (unit first long : ℕ) (t : Prefix) → Decides (LentBy unit first long t) (lent_by unit first long t)
 unfolding lent_by
 lent_by? unit first long t =
     iff?
@@ -100,7 +100,7 @@ module _ {A : Type 0} (f : ℕ → A) (first long : ℕ) (t : Prefix) (a : ℕ) 
   pub goes_on_lem : Stands first long t a → x ≡ cond (lent_to_read first long t) (cond (contains t a) x (f 3)) (f 1)
   goes_on_lem s = sym (cond_on _ _ (lent_to_read? first long t) s.lent ∙ cond_on _ _ (contains? t a) s.inside)
 
-  stops_at : (code : ℕ) → code ≡ standing_of first long t a → (code ≡ 0 → ⊥)
+  pub stops_at : (code : ℕ) → code ≡ standing_of first long t a → (code ≡ 0 → ⊥)
       → f code ≡ cond (lent_to_read first long t) (cond (contains t a) x (f 3)) (f 1)
   unfolding standing_of
   stops_at code m n = ap f m ∙ go (lent_to_read first long t) (contains t a) (λ z. n (m ∙ z))

@@ -2,19 +2,22 @@
 ghost use Rattle.std.specs.Prelude.{◌≡◌};
 ghost use Rattle.lookup.specs.Bytes.{look_up_bytes};
 
-use crate::look::{Packed, answer};
-use ground::refusal::Refusal;
+use crate::look::{Packed, read, standing};
 use prefix::Prefix;
 
-// The answer as one number; refusal 1 also where a table is no whole number of cells.
-#[tactic(auto, using(crate::proofs::Words::chunks_spell), unfolding(crate::specs::Bytes::look_up_bytes))]
+// How many bytes a cell has.
+const CELL: usize = 4;
+
+// The answer as one number; refusal 1 also where a table is no whole number of cells. The tables are tested in bytes, at once, and then are
+// whole cells.
+#[tactic(auto, using(crate::proofs::Words::bytes_lent, crate::proofs::Words::bytes_read, crate::proofs::Words::bytes_stop))]
 pub fn look_up_bytes(first: &[u8], long: &[u8], territory: Prefix, address: u32) -> u32
     ensures { result ≡ look_up_bytes first.now long.now territory address }
 {
-    let (first, cut) = first.as_chunks::<4>();
-    let (long, long_cut) = long.as_chunks::<4>();
-    if !cut.is_empty() || !long_cut.is_empty() {
-        return Packed::refused(Refusal::WrongSizes);
+    if let Err(refusal) = standing(CELL, first.len(), long.len(), territory, address) {
+        return Packed::refused(refusal);
     }
-    answer(first, long, territory, address)
+    let (first, _) = first.as_chunks::<CELL>();
+    let (long, _) = long.as_chunks::<CELL>();
+    read(first, long, territory, address)
 }

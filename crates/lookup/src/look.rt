@@ -1,5 +1,5 @@
 // Look up: the answer to an address, from the first and the long table.
-ghost use Rattle.std.specs.Prelude.{◌≡◌, ℕ, ◌<◌, ◌≤◌, ◌^◌, map};
+ghost use Rattle.std.specs.Prelude.{◌≡◌, ℕ, ◌<◌, ◌≤◌, ◌^◌, length, map};
 ghost use Rattle.std.specs.Int.{w32, from_le_bytes};
 ghost use Rattle.ground.specs.Refusals.{number, code_of};
 ghost use Rattle.prefix.specs.Geometry.{block_size};
@@ -190,16 +190,25 @@ pub fn says<W: Word>(long: &[W], low: usize, cell: u32) -> u32
     verdict(long[segment * Block::CELLS + low].word(), 32)
 }
 
-// The answer as one number. It reads just the one or two cells that decide.
-#[tactic(auto, using(crate::proofs::Reading::reads_past, crate::proofs::Reading::reads_block, crate::proofs::Reading::reads, crate::proofs::Reading::refuses))]
+// The answer as one number, where nothing refuses what is lent. It reads just the one or two cells that decide.
+#[tactic(auto, using(crate::proofs::Reading::reads_past, crate::proofs::Reading::reads_block, crate::proofs::Reading::reads))]
+pub(crate) fn read<W: Word>(first: &[W], long: &[W], territory: Prefix, address: u32) -> u32
+    requires { standing_of (length first.now) (length long.now) territory address ≡ 0 }
+    ensures { result ≡ packed (look_up (map W.spelt first.now) (map W.spelt long.now) territory address) }
+{
+    let cell = first[block_of(territory, address)].word();
+    says(long, (address % Block::SIZE) as usize, cell)
+}
+
+// The answer as one number.
+#[tactic(auto, using(crate::proofs::Reading::refuses))]
 pub fn answer<W: Word>(first: &[W], long: &[W], territory: Prefix, address: u32) -> u32
     ensures { result ≡ packed (look_up (map W.spelt first.now) (map W.spelt long.now) territory address) }
 {
     if let Err(refusal) = standing_in_cells(first.len(), long.len(), territory, address) {
         return Packed::refused(refusal);
     }
-    let cell = first[block_of(territory, address)].word();
-    says(long, (address % Block::SIZE) as usize, cell)
+    read(first, long, territory, address)
 }
 
 // The answer to an address: the length and the hop of the deciding cell, or refusal 1, 3, 4 or 8.
