@@ -79,7 +79,7 @@ impl fmt::Write for Text {
     }
 }
 
-// Prints a line: it is put together first, and then written.
+// Prints a line: it is put together first, and then written. No line is too long for that.
 pub fn print<R: Print + Eprint + Clock, L: Display + Drop>(rt: &R, line: L) -> Result<(), Failed> {
     let mut text = Text {
         bytes: [0; 96],
