@@ -2,7 +2,7 @@
 #![tactic(auto)]
 
 ghost use Rattle.ground.specs.Refusals.{code_of};
-ghost use Rattle.std.specs.Prelude.{◌≡◌, ◌≤◌, drop, length};
+ghost use Rattle.std.specs.Prelude.{◌≡◌, drop, length};
 ghost use Rattle.prefix.specs.Routes.{last_hop};
 ghost use Rattle.sheet.specs.Sheet.{Hops, within, SheetIs};
 
