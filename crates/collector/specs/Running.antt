@@ -81,7 +81,7 @@ text_of l = codes "end " ++ decimal l.code ++ codes " live " ++ decimal l.prefix
 
 -- some bytes, those that were handed over: the memory at exit is that of their history, and the last line has the number with which
 -- their stream ends, how many prefixes are live, and how many segments are open, that is have an owner word that is not 0; where a read or
--- a write failed there is no number, and the two counts are the same
+-- a write failed there is no number, and both counts hold as they do else
 pub record LastIs (m : Lent) (r : Ended) (n : Lent) : Type 0 where
   pub bytes : List ℕ
   pub lent : n ≡ memory site m (history_of bytes)

@@ -51,6 +51,7 @@ impl Update {
 
     pub const VERSION: u8 = 1;
 
+    // The kinds, each as the byte of a record.
     pub const ANNOUNCE: u8 = Kind::Announce as u8;
 
     pub const WITHDRAW: u8 = Kind::Withdraw as u8;
